@@ -76,15 +76,15 @@ pub fn le4(x: u32) -> [u8; 4]
 }
 
 // A number as eight bytes.
-pub fn le8(x: u64) -> [u8; 8]
-    ensures { λ r. ⌜ r ≡ bytesOf 8 x ⌝ }
+pub fn le8(v: u64) -> [u8; 8]
+    ensures { λ r. ⌜ r ≡ bytesOf 8 v ⌝ }
 {
-    let y = x / 256 / 256 / 256 / 256;
+    let y = v / 256 / 256 / 256 / 256;
     [
-        (x % 256) as u8,
-        (x / 256 % 256) as u8,
-        (x / 256 / 256 % 256) as u8,
-        (x / 256 / 256 / 256 % 256) as u8,
+        (v % 256) as u8,
+        (v / 256 % 256) as u8,
+        (v / 256 / 256 % 256) as u8,
+        (v / 256 / 256 / 256 % 256) as u8,
         (y % 256) as u8,
         (y / 256 % 256) as u8,
         (y / 256 / 256 % 256) as u8,
