@@ -5,51 +5,41 @@ use crate::utf8;
 ghost use mathlib.Core.Path.{_≡_};
 ghost use Prim.Native.Nat.{suc, pred, _+_, _-_, _≤_, _<_};
 ghost use lib.ListN.{length, drop};
-ghost use Rattle.text.specs.Utf8.{_–_, within, anyOf, charLen};
+ghost use Rattle.text.specs.Utf8.{within, anyOf, charLen};
 ghost use Rattle.text.specs.Trim.{whiteSpace, _⊳_, codePoint, blankLen, trimStart, trim};
-
-// Whether a code point lies in a range.
-fn among(c: u32, lo: u32, hi: u32) -> bool
-    ensures { λ r. ⌜ r ≡ within c (lo – hi) ⌝ }
-{
-    if c < lo {
-        return false;
-    }
-    c <= hi
-}
 
 // Whether a code point is white space.
 fn is_white(c: u32) -> bool
     ensures { λ r. ⌜ r ≡ anyOf (within c) whiteSpace ⌝ }
 {
-    if among(c, 0x0009, 0x000D) {
+    if utf8::among(c, 0x0009, 0x000D) {
         return true;
     }
-    if among(c, 0x0020, 0x0020) {
+    if utf8::among(c, 0x0020, 0x0020) {
         return true;
     }
-    if among(c, 0x0085, 0x0085) {
+    if utf8::among(c, 0x0085, 0x0085) {
         return true;
     }
-    if among(c, 0x00A0, 0x00A0) {
+    if utf8::among(c, 0x00A0, 0x00A0) {
         return true;
     }
-    if among(c, 0x1680, 0x1680) {
+    if utf8::among(c, 0x1680, 0x1680) {
         return true;
     }
-    if among(c, 0x2000, 0x200A) {
+    if utf8::among(c, 0x2000, 0x200A) {
         return true;
     }
-    if among(c, 0x2028, 0x2029) {
+    if utf8::among(c, 0x2028, 0x2029) {
         return true;
     }
-    if among(c, 0x202F, 0x202F) {
+    if utf8::among(c, 0x202F, 0x202F) {
         return true;
     }
-    if among(c, 0x205F, 0x205F) {
+    if utf8::among(c, 0x205F, 0x205F) {
         return true;
     }
-    among(c, 0x3000, 0x3000)
+    utf8::among(c, 0x3000, 0x3000)
 }
 
 // The bits of a code point so far, and behind them the six of a tail octet.

@@ -3,7 +3,17 @@
 ghost use mathlib.Core.Path.{_≡_};
 ghost use mathlib.Core.List.{[], _∷_};
 ghost use lib.ListN.{drop};
-ghost use Rattle.text.specs.Utf8.{_–_, tail, begins, anyOf, utf8-3, utf8-4, charLen, isUtf8};
+ghost use Rattle.text.specs.Utf8.{_–_, within, tail, begins, anyOf, utf8-3, utf8-4, charLen, isUtf8};
+
+// Whether a number lies in a range.
+pub(crate) fn among(c: u32, lo: u32, hi: u32) -> bool
+    ensures { λ r. ⌜ r ≡ within c (lo – hi) ⌝ }
+{
+    if c < lo {
+        return false;
+    }
+    c <= hi
+}
 
 // Whether an octet of the range stands at a place.
 fn octet(s: &[u8], at: usize, lo: u8, hi: u8) -> bool
@@ -12,11 +22,7 @@ fn octet(s: &[u8], at: usize, lo: u8, hi: u8) -> bool
     if at >= s.len() {
         return false;
     }
-    let b = s[at];
-    if b < lo {
-        return false;
-    }
-    b <= hi
+    among(s[at] as u32, lo as u32, hi as u32)
 }
 
 // Whether octets of two ranges stand at a place.

@@ -1,7 +1,7 @@
--- `trim::among`: the two tests of a range.
+-- `utf8::among`: the two tests of a range.
 use borrow.Author.Tests.{le-leb, lt-leb}
-use Rattle.text.proofs.trim.among.Statement.{statement}
-use Rattle.text.proofs.trim.among.Tie as tie
+use Rattle.text.proofs.utf8.among.Statement.{statement}
+use Rattle.text.proofs.utf8.among.Tie as tie
 
 returns : tie.Need-returns
 returns c = rw (lt-leb _ _ (c .if1 .taken))
