@@ -5,6 +5,8 @@
 use mathlib.Core.Bool.{Bool, true, false, _&&_, cond}
 use mathlib.Core.List.{List, [], _∷_}
 use Prim.Native.Nat.{ℕ, _+_}
+use Prim.Native.Char.{code}
+use Prim.Native.String.{String, [] as []ˢ, _∷_ as _∷ˢ_}
 use lib.Dec.{eqb, ltb}
 use lib.ListN.{length, drop}
 use Rattle.text.specs.declared.token.Place.{Place}
@@ -36,6 +38,11 @@ tokensOf (b ∷ s) = cond (eqb b 0x20) ([] ∷ tokensOf s) (onFirst b (tokensOf 
 unfoldable pub restOf : List ℕ → Place → List (List ℕ)
 restOf line (At p) = tokensOf (drop p line)
 restOf line Done = []
+
+-- the bytes of a text in ASCII, for definitions that name a word
+abbrev pub ascii : String → List ℕ
+ascii []ˢ = []
+ascii (c ∷ˢ s) = code c ∷ ascii s
 
 -- the first text begins with the second
 unfoldable pub startsWith : List ℕ → List ℕ → Bool
