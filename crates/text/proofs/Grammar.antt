@@ -1,0 +1,169 @@
+-- Laws of the grammar of UTF-8: alternatives, rows of ranges, characters, runs of characters.
+-- Assumes nothing.
+use mathlib.Core.Path.{_≡_, refl, sym, ap, _∙_}
+use mathlib.Core.Bool.{Bool, true, false, _&&_, _||_, cond, false≢true, and-true, and-assoc, or-false}
+use mathlib.Core.List.{List, [], _∷_, _++_}
+use Prim.Native.Nat.{ℕ, zero, suc, _+_, _≤_, _<_, zero-le, suc-le-suc}
+use native.Mathlib.Nat.{not-suc-le-zero, le-of-suc-le-suc, le-trans}
+use native.Mathlib.Omega.{arith}
+use lib.ListN.{length, getD, drop, length-drop, drop-of-length-le}
+use lib.Seq.{drop-cons, drop-drop}
+use Rattle.text.specs.Utf8.{Range, within, begins, anyOf, utf8-1, utf8-2, utf8-3, utf8-4, utf8-char, firstOf, charLen, octets}
+
+-- ---- alternatives, tried one after another: t is what the test of the first one gave
+
+module _ {A : Type 0} (p : A → Bool) (x : A) where
+  pub hit : (xs : List A) {t : Bool} → t ≡ p x → t ≡ true → true ≡ anyOf p (x ∷ xs)
+  unfolding anyOf
+  hit xs e h = ap (λ (b : Bool). b || anyOf p xs) (sym h ∙ e)
+
+  pub miss : (xs : List A) {t r : Bool} → t ≡ p x → t ≡ false → r ≡ anyOf p xs → r ≡ anyOf p (x ∷ xs)
+  unfolding anyOf
+  miss xs e h k = k ∙ ap (λ (b : Bool). b || anyOf p xs) (sym h ∙ e)
+
+  pub last : {t : Bool} → t ≡ p x → t ≡ anyOf p (x ∷ [])
+  unfolding anyOf
+  last e = e ∙ sym (or-false (p x))
+
+pub ruleset tried = (hit, miss, last)
+
+-- ---- rows of ranges, at a place of a list
+
+-- past the end
+pub begins-past : (r : Range) (rs : List Range) (s : List ℕ) (i : ℕ) → length s ≤ i → begins (drop i s) (r ∷ rs) ≡ false
+unfolding begins
+begins-past r rs s i h = ap (λ (l : List ℕ). begins l (r ∷ rs)) (drop-of-length-le s h)
+
+-- one octet
+pub begins-at : (r : Range) (s : List ℕ) (i : ℕ) → i < length s → begins (drop i s) (r ∷ []) ≡ within (getD s i 0) r
+unfolding begins
+begins-at r s i h = ap (λ (l : List ℕ). begins l (r ∷ [])) (drop-cons s i 0 h) ∙ and-true (within (getD s i 0) r)
+
+-- a row is its front and, behind that, its rest
+begins-append : (a b : List Range) (s : List ℕ) → begins s (a ++ b) ≡ begins s a && begins (drop (length a) s) b
+unfolding begins
+begins-append [] b s = refl
+begins-append (r ∷ a) b [] = refl
+begins-append (r ∷ a) b (x ∷ s) = ap (λ (t : Bool). within x r && t) (begins-append a b s) ∙ sym (and-assoc (within x r) (begins s a) (begins (drop (length a) s) b))
+
+begins-long : (rs : List Range) (s : List ℕ) → begins s rs ≡ true → length rs ≤ length s
+unfolding begins
+begins-long [] s e = zero-le
+begins-long (r ∷ rs) [] e = absurd (false≢true e)
+begins-long (r ∷ rs) (b ∷ s) e = suc-le-suc (begins-long rs s (right (within b r) (begins s rs) e))
+  where
+    right : (x y : Bool) → x && y ≡ true → y ≡ true
+    right true y e = e
+    right false y e = absurd (false≢true e)
+
+-- a row that was tried in two parts, the front first: t is what the front's test gave
+module _ (a b : List Range) (s : List ℕ) (i : ℕ) where
+  split : begins (drop i s) (a ++ b) ≡ begins (drop i s) a && begins (drop (i + length a) s) b
+  split = begins-append a b (drop i s) ∙ ap (λ (l : List ℕ). begins (drop i s) a && begins l b) (drop-drop (length a) i s)
+
+  pub rest : {r t : Bool} → t ≡ begins (drop i s) a → t ≡ true → r ≡ begins (drop (i + length a) s) b → r ≡ begins (drop i s) (a ++ b)
+  rest e h k = rw (split, ← e, h) k
+
+  pub none : {t : Bool} → t ≡ begins (drop i s) a → t ≡ false → false ≡ begins (drop i s) (a ++ b)
+  none e h = rw (split, ← e, h)
+
+-- where a row was found, there is room for it
+pub room : (r : Range) (rs : List Range) (s : List ℕ) (i : ℕ) {t : Bool} → t ≡ begins (drop i s) (r ∷ rs) → t ≡ true → i + length (r ∷ rs) ≤ length s
+room r rs s i e h = omega (arith, begins-long (r ∷ rs) (drop i s) (sym e ∙ h), length-drop i s)
+
+-- ---- characters, by the rules tried one after another
+
+module _ (n : ℕ) (rows : List (List Range)) (more : List (List (List Range))) (s : List ℕ) where
+  pub rule-hit : {t : Bool} → t ≡ anyOf (begins s) rows → t ≡ true → n ≡ firstOf n (rows ∷ more) s
+  unfolding firstOf
+  rule-hit e h = ap (λ (b : Bool). cond b n (firstOf (suc n) more s)) (sym h ∙ e)
+
+  pub rule-miss : {t : Bool} {r : ℕ} → t ≡ anyOf (begins s) rows → t ≡ false → r ≡ firstOf (suc n) more s → r ≡ firstOf n (rows ∷ more) s
+  unfolding firstOf
+  rule-miss e h k = k ∙ ap (λ (b : Bool). cond b n (firstOf (suc n) more s)) (sym h ∙ e)
+
+pub rule-none : (n : ℕ) (s : List ℕ) → 0 ≡ firstOf n [] s
+unfolding firstOf
+rule-none n s = refl
+
+pub ruleset rules = (rule-hit, rule-miss, rule-none, last)
+
+-- the rows of the rule numbered n have n octets, and those of the rules behind it have one more each
+abbrev RowsLong : ℕ → List (List Range) → Type 0
+RowsLong n [] = Unit {0}
+RowsLong n (row ∷ rows) = (n ≤ length row) × RowsLong n rows
+
+abbrev RulesLong : ℕ → List (List (List Range)) → Type 0
+RulesLong n [] = Unit {0}
+RulesLong n (rows ∷ more) = RowsLong n rows × RulesLong (suc n) more
+
+rows-long : (n : ℕ) (rows : List (List Range)) (s : List ℕ) → RowsLong n rows → anyOf (begins s) rows ≡ true → n ≤ length s
+unfolding anyOf
+rows-long n [] s h e = absurd (false≢true e)
+rows-long n (row ∷ rows) s h e = go (begins s row) refl (rows-long n rows s (h .1)) e
+  where
+    go : (t : Bool) → begins s row ≡ t → (anyOf (begins s) rows ≡ true → n ≤ length s) → t || anyOf (begins s) rows ≡ true → n ≤ length s
+    go true q k e′ = le-trans (h .0) (begins-long row s q)
+    go false q k e′ = k e′
+
+rules-long : (n : ℕ) (g : List (List (List Range))) (s : List ℕ) → RulesLong n g → firstOf n g s ≤ length s
+unfolding firstOf
+rules-long n [] s h = zero-le
+rules-long n (rows ∷ more) s h = go (anyOf (begins s) rows) refl (rules-long (suc n) more s (h .1))
+  where
+    go : (t : Bool) → anyOf (begins s) rows ≡ t → firstOf (suc n) more s ≤ length s → cond t n (firstOf (suc n) more s) ≤ length s
+    go true q k = rows-long n rows s (h .0) q
+    go false q k = k
+
+-- a character is not longer than the list, and has at most four octets
+pub charLen-le : (s : List ℕ) → charLen s ≤ length s
+unfolding charLen utf8-char utf8-1 utf8-2 utf8-3 utf8-4
+charLen-le s = rules-long 1 utf8-char s (omega arith)
+
+rules-few : (n : ℕ) (g : List (List (List Range))) (s : List ℕ) → firstOf (suc n) g s ≤ n + length g
+unfolding firstOf
+rules-few n [] s = zero-le
+rules-few n (rows ∷ more) s = go (anyOf (begins s) rows) (rules-few (suc n) more s)
+  where
+    go : (t : Bool) → firstOf (suc (suc n)) more s ≤ suc n + length more → cond t (suc n) (firstOf (suc (suc n)) more s) ≤ n + suc (length more)
+    go true h = omega arith
+    go false h = omega arith
+
+pub charLen-four : (s : List ℕ) → charLen s ≤ 4
+unfolding charLen utf8-char
+charLen-four s = rules-few 0 utf8-char s
+
+-- ---- runs of characters
+
+-- octets that are passed
+pass : (k : ℕ) (s : List ℕ) → k ≤ length s → octets k s ≡ octets 0 (drop k s)
+unfolding octets
+pass zero s h = refl
+pass (suc k) [] h = absurd (not-suc-le-zero h)
+pass (suc k) (b ∷ s) h = pass k s (le-of-suc-le-suc h)
+
+char : (s : List ℕ) (k : ℕ) → charLen s ≡ suc k → octets 0 s ≡ octets 0 (drop (suc k) s)
+unfolding octets
+char [] k e = refl
+char (b ∷ s) k e = rw (e, octets) (pass k s (le-of-suc-le-suc (rw e at (charLen-le (b ∷ s)))))
+
+no-char : (s : List ℕ) → 0 < length s → charLen s ≡ 0 → octets 0 s ≡ false
+unfolding octets
+no-char [] h e = absurd (not-suc-le-zero h)
+no-char (b ∷ s) h e = rw (e, octets)
+
+-- at a place of a list: the end, no character, a character of n octets
+module _ (s : List ℕ) (i : ℕ) where
+  pub ended : length s ≤ i → octets 0 (drop i s) ≡ true
+  unfolding octets
+  ended h = ap (octets 0) (drop-of-length-le s h)
+
+  pub stops : i < length s → charLen (drop i s) ≡ 0 → octets 0 (drop i s) ≡ false
+  stops h e = no-char (drop i s) (rw length-drop (omega arith)) e
+
+  pub goes : (n : ℕ) → n ≡ charLen (drop i s) → (n ≡ 0 → ⊥) → octets 0 (drop (i + n) s) ≡ octets 0 (drop i s)
+  goes zero e h = absurd (h refl)
+  goes (suc k) e h = ap (octets 0) (sym (drop-drop (suc k) i s)) ∙ sym (char (drop i s) k (sym e))
+
+  pub fits-in : (n : ℕ) → i ≤ length s → n ≡ charLen (drop i s) → i + n ≤ length s
+  fits-in n h e = omega (arith, charLen-le (drop i s), length-drop i s, e)
