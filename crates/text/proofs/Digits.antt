@@ -1,7 +1,7 @@
 -- Laws of numbers: one digit, a run of digits, the sign, the base.
 -- Assumes nothing.
 use mathlib.Core.Path.{_≡_, refl, sym, ap, _∙_}
-use mathlib.Core.Bool.{Bool, true, false, _&&_, cond, false≢true}
+use mathlib.Core.Bool.{Bool, true, false, cond}
 use mathlib.Core.List.{List, [], _∷_}
 use Prim.Native.Nat.{ℕ, _+_, _-_, _*_, _/_, _^_, _≤_, _<_}
 use native.Mathlib.Nat.{mul-le-mul-left, div-lt-iff-lt-mul, le-div-iff-mul-le}
@@ -15,15 +15,12 @@ use Rattle.text.specs.Utf8.{_–_, within}
 use Rattle.text.specs.Number.{digitOf, digits, some, signed, isHex, numeral}
 use Rattle.text.specs.declared.number.Number.{Number}
 use Rattle.text.specs.declared.number.Number.the-variants.{Value, Bad}
+use Rattle.text.proofs.Grammar.{both}
 
 -- ---- one digit, by the ranges tried in their order: t, u and v are what the tests gave
 
 pub at-least : (b lo hi : ℕ) {t : Bool} → t ≡ within b (lo – hi) → t ≡ true → lo ≤ b
-at-least b lo hi e h = go (leb lo b) (leb b hi) refl (sym e ∙ h)
-  where
-    go : (x y : Bool) → leb lo b ≡ x → x && y ≡ true → lo ≤ b
-    go true y q k = leb-true lo b q
-    go false y q k = absurd (false≢true k)
+at-least b lo hi e h = leb-true lo b (both (leb lo b) (leb b hi) (sym e ∙ h) .0)
 
 module _ (b : ℕ) {t : Bool} where
   pub digit-9 : t ≡ within b (0x30 – 0x39) → t ≡ true → b - 0x30 ≡ digitOf b

@@ -14,6 +14,7 @@ use lib.ListN.{length, getD, take, drop, length-take, length-drop, drop-of-lengt
 use lib.Seq.{drop-cons, drop-drop}
 use Rattle.text.specs.Token.{until, tokenEnd, placeAfter, onFirst, tokensOf, restOf, startsWith, same}
 use Rattle.text.specs.declared.token.Place.the-variants.{At, Done}
+use Rattle.text.proofs.Grammar.{both}
 
 -- ---- runs
 
@@ -144,11 +145,9 @@ unfolding same
 same-equal [] [] e = refl
 same-equal [] (y ∷ b) e = absurd (false≢true e)
 same-equal (x ∷ a) [] e = absurd (false≢true e)
-same-equal (x ∷ a) (y ∷ b) e = go (eqb x y) refl (same-equal a b) e
-  where
-    go : (t : Bool) → eqb x y ≡ t → (same a b ≡ true → a ≡ b) → t && same a b ≡ true → x ∷ a ≡ y ∷ b
-    go true q k h = ap₂ (λ (u : ℕ) (v : List ℕ). u ∷ v) (eqb-true x y q) (k h)
-    go false q k h = absurd (false≢true h)
+same-equal (x ∷ a) (y ∷ b) e =
+    let f = both (eqb x y) (same a b) e in
+    ap₂ (λ (u : ℕ) (v : List ℕ). u ∷ v) (eqb-true x y (f .0)) (same-equal a b (f .1))
 
 pub same-self : (a : List ℕ) → same a a ≡ true
 unfolding same
