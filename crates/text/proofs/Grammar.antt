@@ -1,7 +1,7 @@
--- Laws of the grammar of UTF-8: alternatives, rows of ranges, characters, runs of characters.
+-- Laws of the grammar of UTF-8 (RFC 3629, section 4): rows of ranges, characters, runs of characters.
 -- Assumes nothing.
 use mathlib.Core.Path.{_≡_, refl, sym, ap, _∙_}
-use mathlib.Core.Bool.{Bool, true, false, _&&_, _||_, cond, false≢true, and-true, and-assoc, or-false}
+use mathlib.Core.Bool.{Bool, true, false, _&&_, cond, false≢true, and-true, and-assoc}
 use mathlib.Core.List.{List, [], _∷_, _++_}
 use Prim.Native.Nat.{ℕ, zero, suc, _+_, _≤_, _<_, zero-le, suc-le-suc}
 use native.Mathlib.Nat.{not-suc-le-zero, le-of-suc-le-suc}
@@ -9,37 +9,7 @@ use native.Mathlib.Omega.{arith}
 use lib.ListN.{length, getD, drop, length-drop, drop-of-length-le}
 use lib.Seq.{drop-cons, drop-drop}
 use Rattle.text.specs.Utf8.{Range, _–_, within, begins, anyOf, utf8-1, utf8-2, utf8-3, utf8-4, utf8-char, firstOf, charLen, octets}
-
--- ---- tests that are joined
-
-pub both : (x y : Bool) → x && y ≡ true → (x ≡ true) × (y ≡ true)
-both true y e = (refl, e)
-both false y e = absurd (false≢true e)
-
-pub either : (x y : Bool) {P : Type 0} → (x ≡ true → P) → (y ≡ true → P) → x || y ≡ true → P
-either true y f g e = f refl
-either false y f g e = g e
-
-pub or-right : (x : Bool) {y : Bool} → y ≡ true → x || y ≡ true
-or-right true e = refl
-or-right false e = e
-
--- ---- alternatives, tried one after another: t is what the test of the first one gave
-
-module _ {A : Type 0} (p : A → Bool) (x : A) where
-  pub hit : (xs : List A) {t : Bool} → t ≡ p x → t ≡ true → true ≡ anyOf p (x ∷ xs)
-  unfolding anyOf
-  hit xs e h = ap (λ (b : Bool). b || anyOf p xs) (sym h ∙ e)
-
-  pub miss : (xs : List A) {t r : Bool} → t ≡ p x → t ≡ false → r ≡ anyOf p xs → r ≡ anyOf p (x ∷ xs)
-  unfolding anyOf
-  miss xs e h k = k ∙ ap (λ (b : Bool). b || anyOf p xs) (sym h ∙ e)
-
-  pub last : {t : Bool} → t ≡ p x → t ≡ anyOf p (x ∷ [])
-  unfolding anyOf
-  last e = e ∙ sym (or-false (p x))
-
-pub ruleset tried = (hit, miss, last)
+use Rattle.text.proofs.Tests.{both, either, last}
 
 -- ---- rows of ranges, at a place of a list
 

@@ -12,7 +12,8 @@ use lib.Dec.{leb}
 use lib.ListN.{length, getD, take, drop, length-drop, take-append-drop}
 use lib.Seq.{drop-append-seam}
 use Rattle.text.specs.Utf8.{Range, _–_, within, begins, anyOf, utf8-char, firstOf, charLen, octets, isUtf8, fits, isChar, Octets, empty, one-more}
-use Rattle.text.proofs.Grammar.{both, either, or-right, RowsIn, RulesIn, rules-in, char, no-char}
+use Rattle.text.proofs.Tests.{both, either, or-right}
+use Rattle.text.proofs.Grammar.{RowsIn, RulesIn, rules-in, char, no-char}
 
 -- ---- a row, in front of more octets
 
