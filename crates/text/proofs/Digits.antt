@@ -1,7 +1,7 @@
 -- Laws of numbers: one digit, a run of digits, the sign, the base.
 -- Assumes nothing.
 use mathlib.Core.Path.{_≡_, refl, sym, ap, _∙_}
-use mathlib.Core.Bool.{Bool, true, false, _&&_, cond, false≢true}
+use mathlib.Core.Bool.{Bool, true, false, cond}
 use mathlib.Core.List.{List, [], _∷_}
 use Prim.Native.Nat.{ℕ, _+_, _-_, _*_, _/_, _^_, _≤_, _<_}
 use native.Mathlib.Nat.{mul-le-mul-left, div-lt-iff-lt-mul, le-div-iff-mul-le}
@@ -15,32 +15,31 @@ use Rattle.text.specs.Utf8.{_–_, within}
 use Rattle.text.specs.Number.{digitOf, digits, some, signed, isHex, numeral}
 use Rattle.text.specs.declared.number.Number.{Number}
 use Rattle.text.specs.declared.number.Number.the-variants.{Value, Bad}
+use Rattle.text.proofs.Tests.{both}
 
 -- ---- one digit, by the ranges tried in their order: t, u and v are what the tests gave
 
 pub at-least : (b lo hi : ℕ) {t : Bool} → t ≡ within b (lo – hi) → t ≡ true → lo ≤ b
-at-least b lo hi e h = go (leb lo b) (leb b hi) refl (sym e ∙ h)
-  where
-    go : (x y : Bool) → leb lo b ≡ x → x && y ≡ true → lo ≤ b
-    go true y q k = leb-true lo b q
-    go false y q k = absurd (false≢true k)
+at-least b lo hi e h = leb-true lo b (both (leb lo b) (leb b hi) (sym e ∙ h) .0)
 
-module _ (b : ℕ) {t : Bool} where
-  pub digit-9 : t ≡ within b (0x30 – 0x39) → t ≡ true → b - 0x30 ≡ digitOf b
+module _ (b : ℕ) {t : Bool} (e : t ≡ within b (0x30 – 0x39)) where
+  pub digit-9 : t ≡ true → b - 0x30 ≡ digitOf b
   unfolding digitOf
-  digit-9 e h = rw (← e, h)
+  digit-9 h = rw (← e, h)
 
-  pub digit-F : {u : Bool} → t ≡ within b (0x30 – 0x39) → t ≡ false → u ≡ within b (0x41 – 0x46) → u ≡ true → b - 0x37 ≡ digitOf b
-  unfolding digitOf
-  digit-F e h f k = rw (← e, h, ← f, k)
+  module _ (h : t ≡ false) {u : Bool} (f : u ≡ within b (0x41 – 0x46)) where
+    pub digit-F : u ≡ true → b - 0x37 ≡ digitOf b
+    unfolding digitOf
+    digit-F k = rw (← e, h, ← f, k)
 
-  pub digit-f : {u v : Bool} → t ≡ within b (0x30 – 0x39) → t ≡ false → u ≡ within b (0x41 – 0x46) → u ≡ false → v ≡ within b (0x61 – 0x66) → v ≡ true → b - 0x57 ≡ digitOf b
-  unfolding digitOf
-  digit-f e h f k g l = rw (← e, h, ← f, k, ← g, l)
+    module _ (k : u ≡ false) {v : Bool} (g : v ≡ within b (0x61 – 0x66)) where
+      pub digit-f : v ≡ true → b - 0x57 ≡ digitOf b
+      unfolding digitOf
+      digit-f l = rw (← e, h, ← f, k, ← g, l)
 
-  pub digit-none : {u v : Bool} → t ≡ within b (0x30 – 0x39) → t ≡ false → u ≡ within b (0x41 – 0x46) → u ≡ false → v ≡ within b (0x61 – 0x66) → v ≡ false → 16 ≡ digitOf b
-  unfolding digitOf
-  digit-none e h f k g l = rw (← e, h, ← f, k, ← g, l)
+      pub digit-none : v ≡ false → 16 ≡ digitOf b
+      unfolding digitOf
+      digit-none l = rw (← e, h, ← f, k, ← g, l)
 
 pub ruleset digit = (digit-9, digit-F, digit-f, digit-none)
 

@@ -1,31 +1,15 @@
--- Laws of the grammar of UTF-8: alternatives, rows of ranges, characters, runs of characters.
+-- Laws of the grammar of UTF-8 (RFC 3629, section 4): rows of ranges, characters, runs of characters.
 -- Assumes nothing.
 use mathlib.Core.Path.{_≡_, refl, sym, ap, _∙_}
-use mathlib.Core.Bool.{Bool, true, false, _&&_, _||_, cond, false≢true, and-true, and-assoc, or-false}
+use mathlib.Core.Bool.{Bool, true, false, _&&_, cond, false≢true, and-true, and-assoc}
 use mathlib.Core.List.{List, [], _∷_, _++_}
 use Prim.Native.Nat.{ℕ, zero, suc, _+_, _≤_, _<_, zero-le, suc-le-suc}
-use native.Mathlib.Nat.{not-suc-le-zero, le-of-suc-le-suc, le-trans}
+use native.Mathlib.Nat.{not-suc-le-zero, le-of-suc-le-suc}
 use native.Mathlib.Omega.{arith}
 use lib.ListN.{length, getD, drop, length-drop, drop-of-length-le}
 use lib.Seq.{drop-cons, drop-drop}
-use Rattle.text.specs.Utf8.{Range, within, begins, anyOf, utf8-1, utf8-2, utf8-3, utf8-4, utf8-char, firstOf, charLen, octets}
-
--- ---- alternatives, tried one after another: t is what the test of the first one gave
-
-module _ {A : Type 0} (p : A → Bool) (x : A) where
-  pub hit : (xs : List A) {t : Bool} → t ≡ p x → t ≡ true → true ≡ anyOf p (x ∷ xs)
-  unfolding anyOf
-  hit xs e h = ap (λ (b : Bool). b || anyOf p xs) (sym h ∙ e)
-
-  pub miss : (xs : List A) {t r : Bool} → t ≡ p x → t ≡ false → r ≡ anyOf p xs → r ≡ anyOf p (x ∷ xs)
-  unfolding anyOf
-  miss xs e h k = k ∙ ap (λ (b : Bool). b || anyOf p xs) (sym h ∙ e)
-
-  pub last : {t : Bool} → t ≡ p x → t ≡ anyOf p (x ∷ [])
-  unfolding anyOf
-  last e = e ∙ sym (or-false (p x))
-
-pub ruleset tried = (hit, miss, last)
+use Rattle.text.specs.Utf8.{Range, _–_, within, begins, anyOf, utf8-1, utf8-2, utf8-3, utf8-4, utf8-char, firstOf, charLen, octets}
+use Rattle.text.proofs.Tests.{both, either, last}
 
 -- ---- rows of ranges, at a place of a list
 
@@ -50,11 +34,7 @@ begins-long : (rs : List Range) (s : List ℕ) → begins s rs ≡ true → leng
 unfolding begins
 begins-long [] s e = zero-le
 begins-long (r ∷ rs) [] e = absurd (false≢true e)
-begins-long (r ∷ rs) (b ∷ s) e = suc-le-suc (begins-long rs s (right (within b r) (begins s rs) e))
-  where
-    right : (x y : Bool) → x && y ≡ true → y ≡ true
-    right true y e = e
-    right false y e = absurd (false≢true e)
+begins-long (r ∷ rs) (b ∷ s) e = suc-le-suc (begins-long rs s (both (within b r) (begins s rs) e .1))
 
 -- a row that was tried in two parts, the front first: t is what the front's test gave
 module _ (a b : List Range) (s : List ℕ) (i : ℕ) where
@@ -88,37 +68,41 @@ rule-none n s = refl
 
 pub ruleset rules = (rule-hit, rule-miss, rule-none, last)
 
--- the rows of the rule numbered n have n octets, and those of the rules behind it have one more each
-abbrev RowsLong : ℕ → List (List Range) → Type 0
-RowsLong n [] = Unit {0}
-RowsLong n (row ∷ rows) = (n ≤ length row) × RowsLong n rows
+-- the rule numbered n: its rows have n octets, of which the first lies from lo to hi
+abbrev pub RowsIn : ℕ → ℕ → ℕ → List (List Range) → Type 0
+RowsIn n lo hi [] = Unit {0}
+RowsIn n lo hi ([] ∷ rows) = ⊥
+RowsIn n lo hi ((a – b ∷ row) ∷ rows) = (suc (length row) ≡ n) × (lo ≤ a) × (b ≤ hi) × RowsIn n lo hi rows
 
-abbrev RulesLong : ℕ → List (List (List Range)) → Type 0
-RulesLong n [] = Unit {0}
-RulesLong n (rows ∷ more) = RowsLong n rows × RulesLong (suc n) more
+-- the rules from that one on: the first octets of each lie behind those of the rule before
+abbrev pub RulesIn : ℕ → ℕ → List (List (List Range)) → Type 0
+RulesIn n lo [] = Unit {0}
+RulesIn n lo (rows ∷ more) = (hi : ℕ) × (lo ≤ hi) × RowsIn n lo hi rows × RulesIn (suc n) (suc hi) more
 
-rows-long : (n : ℕ) (rows : List (List Range)) (s : List ℕ) → RowsLong n rows → anyOf (begins s) rows ≡ true → n ≤ length s
+pub rules-in : RulesIn 1 0 utf8-char
+unfolding utf8-char utf8-1 utf8-2 utf8-3 utf8-4
+rules-in = (0x7F, omega arith, omega arith, (0xDF, omega arith, omega arith, (0xEF, omega arith, omega arith, (0xF4, omega arith, omega arith, tt))))
+
+rows-long : (n lo hi : ℕ) (rows : List (List Range)) (s : List ℕ) → RowsIn n lo hi rows → anyOf (begins s) rows ≡ true → n ≤ length s
 unfolding anyOf
-rows-long n [] s h e = absurd (false≢true e)
-rows-long n (row ∷ rows) s h e = go (begins s row) refl (rows-long n rows s (h .1)) e
-  where
-    go : (t : Bool) → begins s row ≡ t → (anyOf (begins s) rows ≡ true → n ≤ length s) → t || anyOf (begins s) rows ≡ true → n ≤ length s
-    go true q k e′ = le-trans (h .0) (begins-long row s q)
-    go false q k e′ = k e′
+rows-long n lo hi [] s h e = absurd (false≢true e)
+rows-long n lo hi ([] ∷ rows) s h e = absurd h
+rows-long n lo hi ((a – b ∷ row) ∷ rows) s h e =
+    either (begins s (a – b ∷ row)) (anyOf (begins s) rows) (λ q. omega (arith, begins-long (a – b ∷ row) s q, h .0)) (rows-long n lo hi rows s (h .3)) e
 
-rules-long : (n : ℕ) (g : List (List (List Range))) (s : List ℕ) → RulesLong n g → firstOf n g s ≤ length s
+rules-long : (n lo : ℕ) (g : List (List (List Range))) (s : List ℕ) → RulesIn n lo g → firstOf n g s ≤ length s
 unfolding firstOf
-rules-long n [] s h = zero-le
-rules-long n (rows ∷ more) s h = go (anyOf (begins s) rows) refl (rules-long (suc n) more s (h .1))
+rules-long n lo [] s h = zero-le
+rules-long n lo (rows ∷ more) s h = go (anyOf (begins s) rows) refl (rules-long (suc n) (suc (h .0)) more s (h .3))
   where
     go : (t : Bool) → anyOf (begins s) rows ≡ t → firstOf (suc n) more s ≤ length s → cond t n (firstOf (suc n) more s) ≤ length s
-    go true q k = rows-long n rows s (h .0) q
+    go true q k = rows-long n lo (h .0) rows s (h .2) q
     go false q k = k
 
 -- a character is not longer than the list, and has at most four octets
 pub charLen-le : (s : List ℕ) → charLen s ≤ length s
-unfolding charLen utf8-char utf8-1 utf8-2 utf8-3 utf8-4
-charLen-le s = rules-long 1 utf8-char s (omega arith)
+unfolding charLen
+charLen-le s = rules-long 1 0 utf8-char s rules-in
 
 rules-few : (n : ℕ) (g : List (List (List Range))) (s : List ℕ) → firstOf (suc n) g s ≤ n + length g
 unfolding firstOf
@@ -142,12 +126,12 @@ pass zero s h = refl
 pass (suc k) [] h = absurd (not-suc-le-zero h)
 pass (suc k) (b ∷ s) h = pass k s (le-of-suc-le-suc h)
 
-char : (s : List ℕ) (k : ℕ) → charLen s ≡ suc k → octets 0 s ≡ octets 0 (drop (suc k) s)
+pub char : (s : List ℕ) (k : ℕ) → charLen s ≡ suc k → octets 0 s ≡ octets 0 (drop (suc k) s)
 unfolding octets
 char [] k e = refl
 char (b ∷ s) k e = rw (e, octets) (pass k s (le-of-suc-le-suc (rw e at (charLen-le (b ∷ s)))))
 
-no-char : (s : List ℕ) → 0 < length s → charLen s ≡ 0 → octets 0 s ≡ false
+pub no-char : (s : List ℕ) → 0 < length s → charLen s ≡ 0 → octets 0 s ≡ false
 unfolding octets
 no-char [] h e = absurd (not-suc-le-zero h)
 no-char (b ∷ s) h e = rw (e, octets)

@@ -14,6 +14,7 @@ use lib.ListN.{length, getD, take, drop, length-take, length-drop, drop-of-lengt
 use lib.Seq.{drop-cons, drop-drop}
 use Rattle.text.specs.Token.{until, tokenEnd, placeAfter, onFirst, tokensOf, restOf, startsWith, same}
 use Rattle.text.specs.declared.token.Place.the-variants.{At, Done}
+use Rattle.text.proofs.Tests.{both, front}
 
 -- ---- runs
 
@@ -22,11 +23,7 @@ module _ (stop : ℕ) where
   pub until-take : (s : List ℕ) → until stop s ≡ take (length (until stop s)) s
   unfolding until
   until-take [] = refl
-  until-take (b ∷ s) = go (eqb b stop) (until-take s)
-    where
-      go : (t : Bool) {x : List ℕ} → x ≡ take (length x) s → cond t [] (b ∷ x) ≡ take (length (cond t [] (b ∷ x))) (b ∷ s)
-      go true h = refl
-      go false h = ap (λ (y : List ℕ). b ∷ y) h
+  until-take (b ∷ s) = front (eqb b stop) b s (until-take s)
 
   pub until-length : (s : List ℕ) → length (until stop s) ≤ length s
   until-length s = omega (arith, ap length (until-take s), length-take (length (until stop s)) s)
@@ -87,8 +84,12 @@ module _ (line : List ℕ) (at : ℕ) where
       past-space : at + suc u ≡ at + u + 1
       past-space = omega arith
 
-      go : (t : Bool) → ltb (at + u) (length line) ≡ t → cond (ltb u (length (drop at line))) (tokensOf (drop (suc u) (drop at line))) [] ≡ restOf line (cond t (At (at + u + 1)) Done)
-      go true e = rw (lt-ltb u (length (drop at line)) (omega (arith, ltb-true, length-drop at line))) (ap tokensOf (drop-drop (suc u) at line ∙ ap (λ (n : ℕ). drop n line) past-space))
+      go : (t : Bool) → ltb (at + u) (length line) ≡ t
+          → cond (ltb u (length (drop at line))) (tokensOf (drop (suc u) (drop at line))) []
+          ≡ restOf line (cond t (At (at + u + 1)) Done)
+      go true e =
+          rw (lt-ltb u (length (drop at line)) (omega (arith, ltb-true, length-drop at line)))
+          (ap tokensOf (drop-drop (suc u) at line ∙ ap (λ (n : ℕ). drop n line) past-space))
       go false e = rw (le-ltb u (length (drop at line)) (omega (arith, ltb-false, length-drop at line)))
 
   -- the tokens from a place on are the one that starts there and those from the next place on
@@ -144,11 +145,9 @@ unfolding same
 same-equal [] [] e = refl
 same-equal [] (y ∷ b) e = absurd (false≢true e)
 same-equal (x ∷ a) [] e = absurd (false≢true e)
-same-equal (x ∷ a) (y ∷ b) e = go (eqb x y) refl (same-equal a b) e
-  where
-    go : (t : Bool) → eqb x y ≡ t → (same a b ≡ true → a ≡ b) → t && same a b ≡ true → x ∷ a ≡ y ∷ b
-    go true q k h = ap₂ (λ (u : ℕ) (v : List ℕ). u ∷ v) (eqb-true x y q) (k h)
-    go false q k h = absurd (false≢true h)
+same-equal (x ∷ a) (y ∷ b) e =
+    let f = both (eqb x y) (same a b) e in
+    ap₂ (λ (u : ℕ) (v : List ℕ). u ∷ v) (eqb-true x y (f .0)) (same-equal a b (f .1))
 
 pub same-self : (a : List ℕ) → same a a ≡ true
 unfolding same

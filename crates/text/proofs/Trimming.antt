@@ -11,6 +11,7 @@ use lib.ListN.{length, getD, take, drop, length-take, length-drop, drop-of-lengt
 use lib.Seq.{drop-drop, getD-drop}
 use Rattle.text.specs.Utf8.{within, anyOf, charLen}
 use Rattle.text.specs.Trim.{whiteSpace, _⊳_, codePoint, blankLen, lead, trimStart, isNil, keep, trimEnd, trim}
+use Rattle.text.proofs.Tests.{front}
 use Rattle.text.proofs.Grammar.{charLen-le}
 
 -- ---- code points, by the number of octets
@@ -145,15 +146,11 @@ module _ (s : List ℕ) (i : ℕ) where
 -- ---- the text up to the white space at its end
 
 -- it is a front of the list
-keep-front : (k : ℕ) (l : List ℕ) → take (length (keep k l)) l ≡ keep k l
+keep-front : (k : ℕ) (l : List ℕ) → keep k l ≡ take (length (keep k l)) l
 unfolding keep
 keep-front k [] = refl
 keep-front (suc k) (b ∷ l) = ap (λ (x : List ℕ). b ∷ x) (keep-front k l)
-keep-front zero (b ∷ l) = go (isNil (trimStart (b ∷ l))) (keep-front (pred (charLen (b ∷ l))) l)
-  where
-    go : (t : Bool) {x : List ℕ} → take (length x) l ≡ x → take (length (cond t [] (b ∷ x))) (b ∷ l) ≡ cond t [] (b ∷ x)
-    go true e = refl
-    go false e = ap (λ (y : List ℕ). b ∷ y) e
+keep-front zero (b ∷ l) = front (isNil (trimStart (b ∷ l))) b l (keep-front (pred (charLen (b ∷ l))) l)
 
 keep-none : (l : List ℕ) → isNil (trimStart l) ≡ true → keep 0 l ≡ []
 unfolding keep
@@ -215,9 +212,14 @@ module _ (s : List ℕ) (i p : ℕ) (hi : i ≤ length s) (hp : p ≡ length s -
   done h = ap length (keep-none (drop i s) (isNil-short (trimStart (drop i s)) (omega (arith, start-le s i))))
 
   -- a character of m octets follows it, and both are kept
-  pub turn : (m : ℕ) → p < length s → m ≡ suc (pred (charLen (drop p s))) → (i ≤ p) × (p + m ≤ length s) × (i + length (keep 0 (drop i s)) ≡ p + m + length (keep 0 (drop (p + m) s)))
+  pub turn : (m : ℕ) → p < length s → m ≡ suc (pred (charLen (drop p s)))
+      → (i ≤ p) × (p + m ≤ length s) × (i + length (keep 0 (drop i s)) ≡ p + m + length (keep 0 (drop (p + m) s)))
   unfolding trimStart
-  turn m h hm = (further .0, omega (arith, charLen-le (drop p s), length-drop p s), omega (arith, run, one, ap length there, length-drop i s, length-drop p s, further))
+  turn m h hm = (
+    further .0,
+    omega (arith, charLen-le (drop p s), length-drop p s),
+    omega (arith, run, one, ap length there, length-drop i s, length-drop p s, further),
+  )
     where
       left : 0 < length (drop p s)
       left = omega (arith, length-drop p s)
@@ -231,10 +233,12 @@ module _ (s : List ℕ) (i p : ℕ) (hi : i ≤ length s) (hp : p ≡ length s -
           ∙ ap (λ (l : List ℕ). m + length (keep 0 l)) (drop-drop m p s)
 
 -- a part from a to e, where a is behind the white space at the start, and nothing is kept from e on
-pub cut-out : (s : List ℕ) (a e : ℕ) → a ≡ length s - length (trimStart (drop 0 s)) → a + length (keep 0 (drop a s)) ≡ e + length (keep 0 (drop e s)) → length (keep 0 (drop e s)) ≡ 0
+pub cut-out : (s : List ℕ) (a e : ℕ) → a ≡ length s - length (trimStart (drop 0 s))
+    → a + length (keep 0 (drop a s)) ≡ e + length (keep 0 (drop e s))
+    → length (keep 0 (drop e s)) ≡ 0
     → take (e - a) (drop a s) ≡ trim s
 unfolding trim trimEnd
-cut-out s a e ha q h = ap (λ (n : ℕ). take n (drop a s)) count ∙ keep-front 0 (drop a s) ∙ ap (keep 0) (sym (there s 0 a zero-le ha))
+cut-out s a e ha q h = ap (λ (n : ℕ). take n (drop a s)) count ∙ sym (keep-front 0 (drop a s)) ∙ ap (keep 0) (sym (there s 0 a zero-le ha))
   where
     count : e - a ≡ length (keep 0 (drop a s))
     count = omega arith

@@ -42,6 +42,7 @@ lead zero (b ∷ s) = elim (blankLen (b ∷ s)) [ zero ↦ b ∷ s | suc k ↦ l
 unfoldable pub trimStart : List ℕ → List ℕ
 trimStart s = lead 0 s
 
+-- the list is empty
 abbrev pub isNil : List ℕ → Bool
 isNil [] = true
 isNil (b ∷ s) = false

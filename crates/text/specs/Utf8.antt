@@ -8,7 +8,8 @@
 --     UTF8-tail   = %x80-BF
 -- Assumes nothing.
 use mathlib.Core.Bool.{Bool, true, false, _&&_, _||_, cond}
-use mathlib.Core.List.{List, [], _∷_}
+use mathlib.Core.Path.{_≡_}
+use mathlib.Core.List.{List, [], _∷_, _++_}
 use Prim.Native.Nat.{ℕ, zero, suc}
 use lib.Dec.{leb}
 
@@ -86,3 +87,21 @@ octets zero (b ∷ s) = elim (charLen (b ∷ s)) [ zero ↦ false | suc k ↦ oc
 -- UTF8-octets
 unfoldable pub isUtf8 : List ℕ → Bool
 isUtf8 s = octets 0 s
+
+-- ---- the lists that the grammar derives; proofs/Rfc3629.antt shows that these are the lists of which isUtf8 is true
+
+-- the list is an octet of each range of the row, and no more
+unfoldable pub fits : List ℕ → List Range → Bool
+fits [] [] = true
+fits [] (r ∷ rs) = false
+fits (b ∷ c) [] = false
+fits (b ∷ c) (r ∷ rs) = within b r && fits c rs
+
+-- UTF8-char
+unfoldable pub isChar : List ℕ → Bool
+isChar c = anyOf (anyOf (fits c)) utf8-char
+
+-- UTF8-octets = *( UTF8-char )
+pub data Octets : List ℕ → Type 0 where
+  empty : Octets []
+  one-more : (c s : List ℕ) → isChar c ≡ true → Octets s → Octets (c ++ s)

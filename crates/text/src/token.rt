@@ -1,5 +1,6 @@
-// The tokens of a shell line, `line.split(' ')` of shell.rs, and the other parts of a text that end at a byte. Each part is
-// handed out as a part of the caller's slice, and the caller keeps the place where the next token starts.
+// The tokens of a shell line, `line.split(' ')` of shell.rs, and the other parts of a text that end at a byte: a partition field
+// up to its first zero (protocol.rs), a name up to its first `;` (storage.rs). Each is handed out as a part of the caller's
+// slice, and the caller keeps the place where the next token starts. Also the comparisons that shell.rs makes.
 ghost use mathlib.Core.Path.{_≡_};
 ghost use Prim.Native.Nat.{_+_};
 ghost use lib.ListN.{length, drop};
@@ -55,7 +56,7 @@ pub fn place_after(line: &[u8], at: usize) -> Place
     }
 }
 
-// The text before the first `;`, or all of it: the first of the names in a partition field.
+// The text before the first `;`, or all of it: the name that a partition field asks for.
 pub fn before_semicolon(s: &[u8]) -> &[u8]
     ensures { λ r. ⌜ now r ≡ until 0x3B (now (s .entry)) ⌝ }
 {

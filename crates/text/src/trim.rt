@@ -1,6 +1,6 @@
-// White space at the two ends of a text: `str::trim` of the Rust. White space is what has the property White_Space in
-// Unicode, so a character is measured and decoded first. Any bytes are taken: where they are no UTF-8, an octet at which no
-// character stands is no white space, and is passed alone.
+// White space at the two ends of a text: `str::trim`, which shell.rs asks of a number and storage.rs of a partition's name. White
+// space is what has the property White_Space in Unicode, so a character is measured and decoded first. Any bytes are taken:
+// an octet at which no character stands is no white space, and is passed alone.
 use crate::utf8;
 ghost use mathlib.Core.Path.{_≡_};
 ghost use Prim.Native.Nat.{suc, pred, _+_, _-_, _≤_, _<_};

@@ -1,4 +1,5 @@
-// UTF-8 by the grammar of RFC 3629, section 4: what the Rust asks of `core::str::from_utf8`.
+// UTF-8 by the grammar of RFC 3629, section 4: `core::str::from_utf8`, which protocol.rs asks of a shell
+// line and of a partition field.
 // The functions go up the grammar: an octet of a range, a row of ranges, a rule's rows, a character, a run of characters.
 ghost use mathlib.Core.Path.{_≡_};
 ghost use mathlib.Core.List.{[], _∷_};

@@ -1,7 +1,7 @@
 -- `number::is_hex`: the two marks, tried in their order.
 use borrow.Author.Needs.{needs}
 use Rattle.text.specs.Number.{isHex}
-use Rattle.text.proofs.Grammar.{tried}
+use Rattle.text.proofs.Tests.{tried}
 use Rattle.text.proofs.number.is_hex.Statement.{statement}
 use Rattle.text.proofs.number.is_hex.Tie as tie
 

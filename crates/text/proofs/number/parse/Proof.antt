@@ -8,11 +8,15 @@ use Rattle.text.proofs.number.parse.Tie as tie
 
 returns : tie.Need-returns
 unfolding numberIn
-returns c = c .after-sign .ensures ∙ numeral-is (c .before .before .before .trim .result .now) (sym (c .before .if1 .taken) ∙ c .before .before .is-hex .ensures) ∙ ap numeral (c .before .before .before .trim .ensures)
+returns c =
+    let t = c .before .before .before .trim in
+    c .after-sign .ensures ∙ numeral-is (t .result .now) (sym (c .before .if1 .taken) ∙ c .before .before .is-hex .ensures) ∙ ap numeral (t .ensures)
 
 returns-2 : tie.Need-returns-2
 unfolding numberIn
-returns-2 c = c .after-sign2 .ensures ∙ numeral-is (c .before .before .before .trim .result .now) (sym (c .before .if1 .left) ∙ c .before .before .is-hex .ensures) ∙ ap numeral (c .before .before .before .trim .ensures)
+returns-2 c =
+    let t = c .before .before .before .trim in
+    c .after-sign2 .ensures ∙ numeral-is (t .result .now) (sym (c .before .if1 .left) ∙ c .before .before .is-hex .ensures) ∙ ap numeral (t .ensures)
 
 pub parse-spec : {M : Type 1} → statement M
 parse-spec =

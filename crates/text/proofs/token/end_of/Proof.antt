@@ -19,13 +19,22 @@ loop-holds : tie.Need-loop-holds Inv-loop μ-loop
 loop-holds c = refl
 
 returns : tie.Need-returns Inv-loop μ-loop
-returns c = let a = c .before .before .before .before .args in omega (arith, ap length (here (a .stop) (a .s .now) (c .before .before .before .loop .i) (c .before .before .loop-test .taken) (c .if1 .taken)))
+returns c =
+    let h = c .before .before .before in
+    let a = h .before .args in
+    omega (arith, ap length (here (a .stop) (a .s .now) (h .loop .i) (c .before .before .loop-test .taken) (c .if1 .taken)))
 
 loop-again : tie.Need-loop-again Inv-loop μ-loop
-loop-again c = let a = c .before .before .before .before .args in omega (arith, ap length (on (a .stop) (a .s .now) (c .before .before .before .loop .i) (c .before .before .loop-test .taken) (c .if1 .left)))
+loop-again c =
+    let h = c .before .before .before in
+    let a = h .before .args in
+    omega (arith, ap length (on (a .stop) (a .s .now) (h .loop .i) (c .before .before .loop-test .taken) (c .if1 .left)))
 
 returns-2 : tie.Need-returns-2 Inv-loop μ-loop
-returns-2 c = let a = c .before .before .args in omega (arith, ap length (past (a .stop) (a .s .now) (c .before .loop .i) (c .loop-test .left)))
+returns-2 c =
+    let h = c .before in
+    let a = h .before .args in
+    omega (arith, ap length (past (a .stop) (a .s .now) (h .loop .i) (c .loop-test .left)))
 
 pub end-of-spec : {M : Type 1} → statement M
 end-of-spec =

@@ -22,13 +22,22 @@ loop-holds : tie.Need-loop-holds Inv-loop μ-loop
 loop-holds c = refl
 
 returns-2 : tie.Need-returns-2 Inv-loop μ-loop
-returns-2 c = let a = c .before .before .before .before .before .before .args in sym (starts-unlike (a .s .now) (a .front .now) (c .before .before .before .before .loop .i) (omega arith) (c .before .before .before .loop-test .taken) (c .if2 .taken)) ∙ c .before .before .before .before .loop .inv
+returns-2 c =
+    let h = c .before .before .before .before in
+    let a = h .before .before .args in
+    sym (starts-unlike (a .s .now) (a .front .now) (h .loop .i) (omega arith) (c .before .before .before .loop-test .taken) (c .if2 .taken)) ∙ h .loop .inv
 
 loop-again : tie.Need-loop-again Inv-loop μ-loop
-loop-again c = let a = c .before .before .before .before .before .before .args in starts-like (a .s .now) (a .front .now) (c .before .before .before .before .loop .i) (omega arith) (c .before .before .before .loop-test .taken) (c .if2 .left) ∙ c .before .before .before .before .loop .inv
+loop-again c =
+    let h = c .before .before .before .before in
+    let a = h .before .before .args in
+    starts-like (a .s .now) (a .front .now) (h .loop .i) (omega arith) (c .before .before .before .loop-test .taken) (c .if2 .left) ∙ h .loop .inv
 
 returns-3 : tie.Need-returns-3 Inv-loop μ-loop
-returns-3 c = let a = c .before .before .before .args in sym (starts-end (a .s .now) (a .front .now) (c .before .loop .i) (c .loop-test .left)) ∙ c .before .loop .inv
+returns-3 c =
+    let h = c .before in
+    let a = h .before .before .args in
+    sym (starts-end (a .s .now) (a .front .now) (h .loop .i) (c .loop-test .left)) ∙ h .loop .inv
 
 pub starts-with-spec : {M : Type 1} → statement M
 starts-with-spec =

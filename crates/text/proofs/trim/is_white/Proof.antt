@@ -1,7 +1,7 @@
 -- `trim::is_white`: the ranges of White_Space, tried in their order.
 use borrow.Author.Needs.{needs}
 use Rattle.text.specs.Trim.{whiteSpace}
-use Rattle.text.proofs.Grammar.{tried}
+use Rattle.text.proofs.Tests.{tried}
 use Rattle.text.proofs.trim.is_white.Statement.{statement}
 use Rattle.text.proofs.trim.is_white.Tie as tie
 

@@ -1,7 +1,7 @@
 -- `utf8::fours`: the rows of UTF8-4, tried in their order.
 use borrow.Author.Needs.{needs}
 use Rattle.text.specs.Utf8.{utf8-4}
-use Rattle.text.proofs.Grammar.{tried}
+use Rattle.text.proofs.Tests.{tried}
 use Rattle.text.proofs.utf8.fours.Statement.{statement}
 use Rattle.text.proofs.utf8.fours.Tie as tie
 
