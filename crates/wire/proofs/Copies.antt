@@ -8,8 +8,8 @@ use native.Mathlib.Numerals.{add-one}
 use native.Mathlib.Omega.{arith}
 use borrow.Author.Tests.{le-leb, lt-leb}
 use borrow.Rule.Slice.PartMut.{putMid, post-is}
-use lib.ListN.{length, set, take, drop, getD}
-use lib.Seq.{drop-length, take-length, sets, sets-eq}
+use lib.ListN.{length, set, take, drop, getD, drop-of-length-le}
+use lib.Seq.{drop-length, take-length, sets, sets-eq, drop-drop}
 use Rattle.wire.specs.Bytes.{laid}
 
 copy-suc : (n : ℕ) (d s : List ℕ) → n < length d → n < length s
@@ -43,3 +43,15 @@ laid-part s at xs ys h q =
     ∙ sym (append-assoc (take at s) xs (drop (at + length xs) s))
     ∙ sym (sets-eq xs s at h)
     ∙ ap (λ (t : Bool). cond t (sets s at xs) s) (sym (le-leb (at + length xs) (length s) h))
+
+-- the same as a front, the bytes and what lies behind them
+pub laid-fits : (s : List ℕ) (at : ℕ) (xs : List ℕ) → at + length xs ≤ length s → laid s at xs ≡ take at s ++ (xs ++ drop (length xs) (drop at s))
+unfolding laid
+laid-fits s at xs h =
+    rw (le-leb (at + length xs) (length s) h) (sets-eq xs s at h ∙ rw (append-assoc, ← drop-drop (length xs) at s))
+
+-- as many bytes as there is room: all of it
+pub laid-whole : (s xs : List ℕ) → length xs ≡ length s → laid s 0 xs ≡ xs
+laid-whole s xs e =
+    let h : length s ≤ length xs = omega arith in
+    laid-fits s 0 xs (omega arith) ∙ ap (λ (l : List ℕ). xs ++ l) (drop-of-length-le s h) ∙ append-nil xs

@@ -1,0 +1,6 @@
+pub mod World
+pub mod Chip
+pub mod Fold
+pub mod Nor
+pub mod Nand
+pub mod Partition

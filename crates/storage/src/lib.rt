@@ -1,0 +1,4 @@
+// Partitions, modelled chips and the buffering over them, from storage.rs: what the engine stands on.
+pub mod chip;
+pub mod partition;
+pub mod types;
