@@ -2,3 +2,5 @@ pub mod Pages
 pub mod Chips
 pub mod Fold
 pub mod NandCalls
+pub mod NandKeeps
+pub mod NandSteps

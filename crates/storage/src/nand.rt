@@ -15,7 +15,8 @@ ghost use Prim.Native.Nat.{ℕ, _+_, _*_, _/_, _^_, _<_, _≤_};
 ghost use lib.ListN.{length};
 ghost use Rattle.text.specs.Token.{same};
 ghost use Rattle.storage.specs.World.{lent, dev, out};
-ghost use Rattle.storage.specs.Nand.{Shaped, blockSize, kept, asksGood, eraseBlock, programPage};
+ghost use Rattle.storage.specs.Nor.{freed};
+ghost use Rattle.storage.specs.Nand.{Shaped, Sound, blockSize, kept, asksGood, eraseBlock, programPage, noting, isErased, eraseChecked, ready, burns, attempt, orElse, flushes, flushed};
 
 // The number of the page, or of the block, that an address lies in.
 fn page_number(page: u64, at: u64) -> u64
@@ -105,5 +106,163 @@ fn program_page(s: Store, faults: &[u8], chip: &mut [u8], at: usize, from: &[u8]
     Done {
         ok: ok,
         store: next,
+    }
+}
+
+// Is a block the one that was erased last and may be programmed on.
+fn is_erased(e: Erased, k: u64) -> bool
+    ensures { λ r. ⌜ r ≡ isErased e k ⌝ }
+{
+    match e {
+        Erased::None => false,
+        Erased::Block(b) => b == k,
+    }
+}
+
+// The record with another erased block.
+fn remember(s: Store, e: Erased) -> Store
+    ensures { λ r. ⌜ r ≡ noting e s ⌝ }
+{
+    let shape = s.shape;
+    Store {
+        shape: shape,
+        held: s.held,
+        at: s.at,
+        erased: e,
+        calls: s.calls,
+    }
+}
+
+// A block is erased, if it is on the chip and good: `erase_checked`. Beyond the chip no call is made.
+fn erase_checked(s: Store, faults: &[u8], marks: &[u8], chip: &mut [u8], k: u64) -> Done
+    requires { ⌜ Shaped (now marks) (s .shape) ⌝ }
+    ensures { λ r. ⌜ ((b : List ℕ) → out (r .ok) (dev (r .store) (now (chip .exit)) b) ≡ eraseChecked (lent (now (faults .entry)) (now (marks .entry))) k (dev s (now (chip .entry)) b)) ⌝ }
+{
+    if s.shape.blocks <= k {
+        return Done {
+            ok: false,
+            store: s,
+        };
+    }
+    let a = ask_good(s, faults, marks, k);
+    if !a.ok {
+        return a;
+    }
+    let next = a.store;
+    erase_block(next, faults, chip, k)
+}
+
+// A block is made ready to be programmed: it was erased last, or is erased now. A failure forgets what was erased.
+fn make_ready(s: Store, faults: &[u8], marks: &[u8], chip: &mut [u8], k: u64) -> Done
+    requires { ⌜ Shaped (now marks) (s .shape) ⌝ }
+    ensures { λ r. ⌜ ((b : List ℕ) → out (r .ok) (dev (r .store) (now (chip .exit)) b) ≡ ready (lent (now (faults .entry)) (now (marks .entry))) k (dev s (now (chip .entry)) b)) ⌝ }
+{
+    let known = s.erased;
+    if is_erased(known, k) {
+        return Done { ok: true, store: s };
+    }
+    let e = erase_checked(s, faults, marks, chip, k);
+    let next = e.store;
+    if !e.ok {
+        let none = remember(next, Erased::None);
+        return Done {
+            ok: false,
+            store: none,
+        };
+    }
+    let block = remember(next, Erased::Block(k));
+    Done {
+        ok: true,
+        store: block,
+    }
+}
+
+// The held page is programmed. A failure forgets what was erased.
+fn burn(s: Store, faults: &[u8], chip: &mut [u8], buffer: &[u8]) -> Done
+    requires { ⌜ s .shape .page ≤ length (now buffer) ⌝ }
+    ensures { λ r. ⌜ ((m : List ℕ) → out (r .ok) (dev (r .store) (now (chip .exit)) (now (buffer .entry))) ≡ burns (lent (now (faults .entry)) m) (dev s (now (chip .entry)) (now (buffer .entry)))) ⌝ }
+{
+    let at = s.at as usize;
+    let n = s.shape.page as usize;
+    let w = program_page(s, faults, chip, at, &buffer[..n]);
+    if w.ok {
+        return w;
+    }
+    let next = w.store;
+    let none = remember(next, Erased::None);
+    Done {
+        ok: false,
+        store: none,
+    }
+}
+
+// One try to flush the held page: its block is made ready, and the page programmed.
+fn try_flush(s: Store, faults: &[u8], marks: &[u8], chip: &mut [u8], buffer: &[u8]) -> Done
+    requires { ⌜ Sound (now marks) (s .shape) (now buffer) ⌝ }
+    ensures { λ r. ⌜ out (r .ok) (dev (r .store) (now (chip .exit)) (now (buffer .entry))) ≡ attempt (lent (now (faults .entry)) (now (marks .entry))) (dev s (now (chip .entry)) (now (buffer .entry))) ⌝ }
+{
+    let size = s.shape.page * s.shape.pages;
+    let k = page_number(size, s.at);
+    let r = make_ready(s, faults, marks, chip, k);
+    if !r.ok {
+        return r;
+    }
+    let next = r.store;
+    burn(next, faults, chip, buffer)
+}
+
+// After a failure, again; the block is then erased anew, as the failure has forgotten it.
+fn try_twice(s: Store, faults: &[u8], marks: &[u8], chip: &mut [u8], buffer: &[u8]) -> Done
+    requires { ⌜ Sound (now marks) (s .shape) (now buffer) ⌝ }
+    ensures { λ r. ⌜ out (r .ok) (dev (r .store) (now (chip .exit)) (now (buffer .entry))) ≡ orElse (attempt (lent (now (faults .entry)) (now (marks .entry))) (dev s (now (chip .entry)) (now (buffer .entry)))) (attempt (lent (now (faults .entry)) (now (marks .entry)))) ⌝ }
+{
+    let a = try_flush(s, faults, marks, chip, buffer);
+    if a.ok {
+        return a;
+    }
+    let next = a.store;
+    try_flush(next, faults, marks, chip, buffer)
+}
+
+// A held page is flushed and is held no more; a failure keeps it: `flush_page`.
+pub(crate) fn flush_page(
+    s: Store,
+    faults: &[u8],
+    marks: &[u8],
+    chip: &mut [u8],
+    buffer: &[u8],
+) -> Done
+    requires { ⌜ Sound (now marks) (s .shape) (now buffer) ⌝ }
+    ensures { λ r. ⌜ out (r .ok) (dev (r .store) (now (chip .exit)) (now (buffer .entry))) ≡ flushes (lent (now (faults .entry)) (now (marks .entry))) (dev s (now (chip .entry)) (now (buffer .entry))) ⌝ }
+{
+    if !s.held {
+        return Done { ok: true, store: s };
+    }
+    let w = try_twice(s, faults, marks, chip, buffer);
+    if !w.ok {
+        return w;
+    }
+    let mut last = w.store;
+    last.held = false;
+    Done {
+        ok: true,
+        store: last,
+    }
+}
+
+// `flush`: a flush that succeeds forgets what was erased.
+pub(crate) fn flush(s: Store, faults: &[u8], marks: &[u8], chip: &mut [u8], buffer: &[u8]) -> Done
+    requires { ⌜ Sound (now marks) (s .shape) (now buffer) ⌝ }
+    ensures { λ r. ⌜ out (r .ok) (dev (r .store) (now (chip .exit)) (now (buffer .entry))) ≡ flushed (lent (now (faults .entry)) (now (marks .entry))) (dev s (now (chip .entry)) (now (buffer .entry))) ⌝ }
+{
+    let f = flush_page(s, faults, marks, chip, buffer);
+    if !f.ok {
+        return f;
+    }
+    let next = f.store;
+    let none = remember(next, Erased::None);
+    Done {
+        ok: true,
+        store: none,
     }
 }
