@@ -4,3 +4,4 @@ pub mod Fold
 pub mod NandCalls
 pub mod NandKeeps
 pub mod NandSteps
+pub mod NandMoves

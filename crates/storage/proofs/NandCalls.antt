@@ -1,9 +1,9 @@
 -- Laws of the NAND chip's calls: a page program byte by byte from the front, a call that set a part of the chip, and a block's
 -- place.
 use mathlib.Core.Path.{_≡_, refl, sym, ap, _∙_}
-use mathlib.Core.Bool.{Bool, true, false, cond}
-use mathlib.Core.List.{List, [], _∷_, _++_}
-use Prim.Native.Nat.{ℕ, zero, suc, _+_, _-_, _*_, _<_, _≤_}
+use mathlib.Core.Bool.{Bool, true, false}
+use mathlib.Core.List.{List, [], _∷_}
+use Prim.Native.Nat.{ℕ, zero, suc, _+_, _-_, _<_, _≤_}
 use native.Mathlib.Nat.{not-suc-le-zero, le-of-suc-le-suc}
 use native.Mathlib.Numerals.{add-one}
 use native.Mathlib.Omega.{arith}
@@ -13,7 +13,7 @@ use lib.Dec.{eqb}
 use lib.ListN.{length, take, drop, set, getD, replicate, length-replicate}
 use Rattle.text.specs.Token.{same}
 use Rattle.storage.specs.declared.types.Store.{Store}
-use Rattle.storage.specs.World.{Lent, lent, dev, out}
+use Rattle.storage.specs.World.{Lent, dev, out}
 use Rattle.storage.specs.Chip.{failing, able, called, over, programs}
 use Rattle.storage.specs.Nand.{blanks, kept, asksGood, programPage}
 use Rattle.storage.proofs.Chips.{part-length}

@@ -1,12 +1,11 @@
 -- What the NAND's buffering keeps of a record: a property that a chip call, another erased block, a freed page and a held page
 -- leave alone is left alone by everything. The shape is such a property.
-use mathlib.Core.Path.{_≡_, refl, sym, ap, _∙_}
+use mathlib.Core.Path.{_≡_, refl}
 use mathlib.Core.Bool.{Bool, true, false, cond}
 use mathlib.Core.List.{List, [], _∷_}
-use Prim.Native.Nat.{ℕ, zero, suc, _+_, _*_, _/_, _%_}
-use lib.Dec.{ltb, leb, eqb}
-use lib.ListN.{length, take, drop, set}
-use Rattle.text.specs.Token.{same}
+use Prim.Native.Nat.{ℕ, _/_}
+use lib.Dec.{ltb}
+use lib.ListN.{length, take}
 use Rattle.storage.specs.declared.types.Shape.{Shape}
 use Rattle.storage.specs.declared.types.Store.{Store}
 use Rattle.storage.specs.declared.types.Erased.{Erased}
@@ -98,12 +97,19 @@ shaped-as q s = rw q s
 pub sound-as : {m b : List ℕ} {g h : Shape} → g ≡ h → Sound m h b → Sound m g b
 sound-as q s = rw q s
 
+-- another buffer of the same length will do
+pub sound-with : {m b c : List ℕ} {h : Shape} → length c ≡ length b → Sound m h b → Sound m h c
+sound-with q s = record { shaped = s .shaped; room = rw q (s .room) }
+
 module _ (l : Lent) (d : Dev) where
   abbrev Shaped-as : Store → Type 0
   Shaped-as s = s .shape ≡ d .store .shape
 
   pub ready-shape : (k : ℕ) {o : Out} → o ≡ ready l k d → o .dev .store .shape ≡ d .store .shape
   ready-shape k q = rw q (ready-keeps Shaped-as (λ s h. h) (λ e s h. h) l k d refl)
+
+  pub checked-shape : (k : ℕ) {o : Out} → o ≡ eraseChecked l k d → o .dev .store .shape ≡ d .store .shape
+  checked-shape k q = rw q (checked-keeps Shaped-as (λ s h. h) (λ e s h. h) l k d refl)
 
   pub attempt-shape : {o : Out} → o ≡ attempt l d → o .dev .store .shape ≡ d .store .shape
   attempt-shape q = rw q (attempt-keeps Shaped-as (λ s h. h) (λ e s h. h) l d refl)

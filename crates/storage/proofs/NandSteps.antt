@@ -1,7 +1,7 @@
 -- How the NAND's flush goes, case by case, as the code goes.
-use mathlib.Core.Path.{_≡_, refl, sym, ap, _∙_}
-use mathlib.Core.Bool.{Bool, true, false, cond}
-use mathlib.Core.List.{List, _++_}
+use mathlib.Core.Path.{_≡_, ap}
+use mathlib.Core.Bool.{true, false}
+use mathlib.Core.List.{List}
 use Prim.Native.Nat.{ℕ, _+_, _*_, _/_, _^_, _≤_, _<_}
 use native.Mathlib.Nat.{mul-le-mul, le-trans}
 use native.Mathlib.Omega.{arith}
@@ -9,11 +9,10 @@ use borrow.Author.Tests.{lt-ltb, le-ltb}
 use lib.ListN.{length, take}
 use Rattle.storage.specs.declared.types.Shape.{Shape}
 use Rattle.storage.specs.declared.types.Store.{Store}
-use Rattle.storage.specs.declared.types.Erased.{Erased}
 use Rattle.storage.specs.declared.types.Erased.the-variants.{None, Block}
-use Rattle.storage.specs.World.{Lent, lent, Dev, dev, Out, out, andThen}
+use Rattle.storage.specs.World.{Lent, Dev, dev, Out, out}
 use Rattle.storage.specs.Nor.{freed}
-use Rattle.storage.specs.Nand.{Shaped, Sound, blockSize, eraseBlock, programPage, asksGood, noting, remember, isErased, eraseChecked, ready, burns, attempt, orElse, flushes, flushed}
+use Rattle.storage.specs.Nand.{Shaped, Sound, blockSize, eraseBlock, programPage, asksGood, noting, isErased, eraseChecked, ready, burns, attempt, orElse, flushes, flushed}
 
 -- ---- the block's place fits
 

@@ -1,9 +1,9 @@
 -- NAND: the modelled chip's calls and the buffering of `NandUpgStorage` over them. A page buffer starts as 0xFF; a page is
 -- flushed on leaving it, never on filling it; a flush is tried twice, the second time with the block erased again.
 use mathlib.Core.Path.{_≡_}
-use mathlib.Core.Bool.{Bool, true, false, _&&_, cond}
+use mathlib.Core.Bool.{Bool, true, false, cond}
 use mathlib.Core.List.{List, [], _∷_, _++_}
-use Prim.Native.Nat.{ℕ, zero, suc, _+_, _-_, _*_, _%_, _/_, _^_, _≤_, _<_, min}
+use Prim.Native.Nat.{ℕ, zero, suc, _+_, _-_, _*_, _/_, _^_, _≤_, _<_, min}
 use lib.Bits.{bitAnd}
 use lib.Dec.{leb, ltb, eqb}
 use lib.ListN.{length, take, drop, getD, replicate}
@@ -14,7 +14,7 @@ use Rattle.storage.specs.declared.types.Erased.{Erased}
 use Rattle.storage.specs.declared.types.Erased.the-variants.{None, Block}
 use Rattle.storage.specs.World.{Lent, Dev, dev, Out, out, andThen, Told, told, Seen, seen}
 use Rattle.storage.specs.Chip.{failing, able, called, over, programs, fetched}
-use Rattle.storage.specs.Fold.{Run, run, base, writes}
+use Rattle.storage.specs.Fold.{run, base, writes}
 use Rattle.storage.specs.Nor.{freed, holding, holds, pagesOf, satAdd}
 
 -- ---- what an opening has tested (01, refusal 13) and later calls test again

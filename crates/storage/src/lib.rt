@@ -1,4 +1,5 @@
 // Partitions, modelled chips and the buffering over them, from storage.rs: what the engine stands on.
+pub mod buffering;
 pub mod chip;
 pub mod nand;
 pub mod partition;

@@ -1,10 +1,8 @@
 -- The buffer's front of a page is programmed; a failure is noted.
 use denote.Ref.{now}
-use mathlib.Core.Path.{_≡_, refl, sym, ap, _∙_}
-use native.Mathlib.Omega.{arith}
-use borrow.Author.Tests.{not-true, not-false}
+use mathlib.Core.Path.{sym}
 use borrow.Author.Needs.{needs}
-use Rattle.storage.specs.World.{lent, dev, out}
+use Rattle.storage.specs.World.{lent, dev}
 use lib.Seq.{length-take-le}
 use Rattle.storage.proofs.NandSteps.{burns-done, burns-not}
 use Rattle.storage.proofs.nand.burn.Statement.{statement}

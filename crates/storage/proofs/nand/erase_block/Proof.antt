@@ -1,6 +1,6 @@
 -- A call that may not be made leaves the chip; else the block's part of it is filled.
 use denote.Ref.{now}
-use mathlib.Core.Path.{_≡_, refl, sym, _∙_}
+use mathlib.Core.Path.{refl, sym, _∙_}
 use Prim.Native.Nat.{_+_, _*_}
 use native.Mathlib.Omega.{arith}
 use borrow.Author.Tests.{not-true, not-false}

@@ -1,10 +1,9 @@
 -- A block beyond the chip costs no call; a bad one is not erased. The chip call has no say in the shape, so the block's place fits.
 use denote.Ref.{now}
-use mathlib.Core.Path.{_≡_, refl, sym, ap, _∙_}
 use native.Mathlib.Omega.{arith}
 use borrow.Author.Tests.{not-true, not-false}
 use borrow.Author.Needs.{needs}
-use Rattle.storage.specs.World.{lent, dev, out}
+use Rattle.storage.specs.World.{lent, dev}
 use Rattle.storage.proofs.NandKeeps.{shaped-as}
 use Rattle.storage.proofs.NandSteps.{block-fits, asks-shape, checked-beyond, checked-bad, checked-done}
 use Rattle.storage.proofs.nand.erase_checked.Statement.{statement}

@@ -1,10 +1,8 @@
 -- A flush that succeeds forgets what was erased.
 use denote.Ref.{now}
-use mathlib.Core.Path.{_≡_, refl, sym, ap, _∙_}
-use native.Mathlib.Omega.{arith}
 use borrow.Author.Tests.{not-true, not-false}
 use borrow.Author.Needs.{needs}
-use Rattle.storage.specs.World.{lent, dev, out}
+use Rattle.storage.specs.World.{lent, dev}
 use Rattle.storage.proofs.NandSteps.{flushed-not, flushed-done}
 use Rattle.storage.proofs.nand.flush.Statement.{statement}
 use Rattle.storage.proofs.nand.flush.Tie as tie

@@ -1,10 +1,8 @@
 -- Nothing is held; or both tries failed and the page stays; or it is let go.
 use denote.Ref.{now}
-use mathlib.Core.Path.{_≡_, refl, sym, ap, _∙_}
-use native.Mathlib.Omega.{arith}
 use borrow.Author.Tests.{not-true, not-false}
 use borrow.Author.Needs.{needs}
-use Rattle.storage.specs.World.{lent, dev, out}
+use Rattle.storage.specs.World.{lent, dev}
 use Rattle.storage.proofs.NandSteps.{flush-free, flush-not, flush-done}
 use Rattle.storage.proofs.nand.flush_page.Statement.{statement}
 use Rattle.storage.proofs.nand.flush_page.Tie as tie

@@ -1,9 +1,5 @@
 -- By cases on what was erased.
-use mathlib.Core.Path.{_≡_, refl, sym, ap, _∙_}
-use native.Mathlib.Omega.{arith}
-use borrow.Author.Tests.{not-true, not-false}
 use borrow.Author.Needs.{needs}
-use Rattle.storage.specs.World.{lent, dev, out}
 use Rattle.storage.specs.Nand.{isErased}
 use Rattle.storage.proofs.nand.is_erased.Statement.{statement}
 use Rattle.storage.proofs.nand.is_erased.Tie as tie

@@ -1,10 +1,9 @@
 -- The block is known to be erased; or a checked erase fails and nothing is known; or it succeeds and the block is.
 use denote.Ref.{now}
-use mathlib.Core.Path.{_≡_, refl, sym, ap, _∙_}
-use native.Mathlib.Omega.{arith}
+use mathlib.Core.Path.{sym, _∙_}
 use borrow.Author.Tests.{not-true, not-false}
 use borrow.Author.Needs.{needs}
-use Rattle.storage.specs.World.{lent, dev, out}
+use Rattle.storage.specs.World.{lent, dev}
 use Rattle.storage.proofs.NandSteps.{ready-known, ready-not, ready-now}
 use Rattle.storage.proofs.nand.make_ready.Statement.{statement}
 use Rattle.storage.proofs.nand.make_ready.Tie as tie

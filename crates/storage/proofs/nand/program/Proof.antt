@@ -1,5 +1,4 @@
 -- The page is compared as the program left it.
-use mathlib.Core.Path.{_≡_, ap, _∙_}
 use Rattle.text.specs.Token.{same}
 use borrow.Author.Needs.{needs}
 use Rattle.storage.proofs.nand.program.Statement.{statement}

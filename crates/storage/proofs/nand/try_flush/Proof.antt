@@ -1,10 +1,9 @@
 -- The block of the held page is made ready and the page burnt; making ready has no say in the shape.
 use denote.Ref.{now}
-use mathlib.Core.Path.{_≡_, refl, sym, ap, _∙_}
 use native.Mathlib.Omega.{arith}
 use borrow.Author.Tests.{not-true, not-false}
 use borrow.Author.Needs.{needs}
-use Rattle.storage.specs.World.{lent, dev, out}
+use Rattle.storage.specs.World.{lent, dev}
 use Rattle.storage.proofs.NandKeeps.{sound-as, ready-shape}
 use Rattle.storage.proofs.NandSteps.{block-most, block-some, page-fits, attempt-unready, attempt-burns}
 use Rattle.storage.proofs.nand.try_flush.Statement.{statement}

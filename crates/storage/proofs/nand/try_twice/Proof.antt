@@ -1,10 +1,7 @@
 -- A try that succeeds stands; after a failure a second one, on a record of the same shape.
 use denote.Ref.{now}
-use mathlib.Core.Path.{_≡_, refl, sym, ap, _∙_}
-use native.Mathlib.Omega.{arith}
-use borrow.Author.Tests.{not-true, not-false}
 use borrow.Author.Needs.{needs}
-use Rattle.storage.specs.World.{lent, dev, out}
+use Rattle.storage.specs.World.{lent, dev}
 use Rattle.storage.proofs.NandKeeps.{sound-as, attempt-shape}
 use Rattle.storage.proofs.NandSteps.{once, twice}
 use Rattle.storage.proofs.nand.try_twice.Statement.{statement}
