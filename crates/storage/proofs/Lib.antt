@@ -4,3 +4,7 @@ pub mod Fold
 pub mod Programs
 pub mod Sectors
 pub mod Nors
+pub mod NandCalls
+pub mod NandKeeps
+pub mod NandSteps
+pub mod NandMoves

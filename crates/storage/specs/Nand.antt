@@ -1,19 +1,38 @@
 -- NAND: the modelled chip's calls and the buffering of `NandUpgStorage` over them. A page buffer starts as 0xFF; a page is
 -- flushed on leaving it, never on filling it; a flush is tried twice, the second time with the block erased again.
-use mathlib.Core.Bool.{Bool, true, false, _&&_, cond}
+use mathlib.Core.Path.{_≡_}
+use mathlib.Core.Bool.{Bool, true, false, cond}
 use mathlib.Core.List.{List, [], _∷_, _++_}
-use Prim.Native.Nat.{ℕ, zero, suc, _+_, _-_, _*_, _%_, _/_, min}
+use Prim.Native.Nat.{ℕ, zero, suc, _+_, _-_, _*_, _/_, _^_, _≤_, _<_, min}
 use lib.Bits.{bitAnd}
 use lib.Dec.{leb, ltb, eqb}
 use lib.ListN.{length, take, drop, getD, replicate}
 use Rattle.text.specs.Token.{same}
+use Rattle.storage.specs.declared.types.Shape.{Shape}
 use Rattle.storage.specs.declared.types.Store.{Store}
 use Rattle.storage.specs.declared.types.Erased.{Erased}
 use Rattle.storage.specs.declared.types.Erased.the-variants.{None, Block}
 use Rattle.storage.specs.World.{Lent, Dev, dev, Out, out, andThen, Told, told, Seen, seen}
 use Rattle.storage.specs.Chip.{failing, able, called, over, programs, fetched}
-use Rattle.storage.specs.Fold.{Run, run, base, writes}
+use Rattle.storage.specs.Fold.{run, base, writes}
 use Rattle.storage.specs.Nor.{freed, holding, holds, pagesOf, satAdd}
+
+-- ---- what an opening has tested (01, refusal 13) and later calls test again
+
+-- the marks and the shape fit together, and the numbers are within their bounds
+pub record Shaped (marks : List ℕ) (h : Shape) : Type 0 where
+  pub page-some : 0 < h .page
+  pub page-most : h .page ≤ 4096
+  pub pages-some : 0 < h .pages
+  pub pages-most : h .pages ≤ 256
+  pub blocks-most : h .blocks ≤ 4096
+  pub marked : length marks ≡ h .blocks
+  pub capacity-most : h .capacity ≤ 2 ^ 31
+
+-- and the buffer has room for the largest page
+pub record Sound (marks : List ℕ) (h : Shape) (buf : List ℕ) : Type 0 where
+  pub shaped : Shaped marks h
+  pub room : 4096 ≤ length buf
 
 -- ---- the chip
 
@@ -51,9 +70,11 @@ asksGood l k d =
 -- ---- the buffering
 
 -- the record with another erased block
+abbrev pub noting : Erased → Store → Store
+noting e s = record { shape = s .shape; held = s .held; at = s .at; erased = e; calls = s .calls }
+
 abbrev pub remember : Erased → Dev → Dev
-remember e d =
-    dev (record { shape = d .store .shape; held = d .store .held; at = d .store .at; erased = e; calls = d .store .calls }) (d .chip) (d .buf)
+remember e d = dev (noting e (d .store)) (d .chip) (d .buf)
 
 -- is block k the one that was erased last and may be programmed on
 unfoldable pub isErased : Erased → ℕ → Bool
@@ -121,14 +142,16 @@ unfoldable pub eraseN : Lent → ℕ → ℕ → Dev → Out
 eraseN l zero k d = out true d
 eraseN l (suc n) k d = andThen (eraseChecked l k d) (eraseN l n (k + 1))
 
--- a flush; what was erased is forgotten; then, where the end is within the capacity, every block that the range touches from the
--- start's block on
-unfoldable pub erased : Lent → ℕ → ℕ → Dev → Out
-erased l start size d =
+-- where the end is within the capacity, every block that the range touches from the start's block on
+unfoldable pub eraseRange : Lent → ℕ → ℕ → Dev → Out
+eraseRange l start size d =
     let end = satAdd start size in
     let b = blockSize (d .store) in
-    andThen (flushes l d)
-    (λ f. let g = remember None f in cond (leb end (g .store .shape .capacity)) (eraseN l (pagesOf b (end - base b start)) (start / b) g) (out false g))
+    cond (leb end (d .store .shape .capacity)) (eraseN l (pagesOf b (end - base b start)) (start / b) d) (out false d)
+
+-- a flush; what was erased is forgotten; then the range
+unfoldable pub erased : Lent → ℕ → ℕ → Dev → Out
+erased l start size d = andThen (flushes l d) (λ f. eraseRange l start size (remember None f))
 
 -- a flush, which remembers what was erased; then the chip's bytes from an address on. A failure reads none
 unfoldable pub readOut : Lent → ℕ → List ℕ → Dev → Seen

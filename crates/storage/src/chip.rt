@@ -20,7 +20,7 @@ pub(crate) fn fill(s: &mut [u8], v: u8)
 }
 
 // Is call number n told to fail.
-fn fails(faults: &[u8], n: u64) -> bool
+pub(crate) fn fails(faults: &[u8], n: u64) -> bool
     ensures { λ r. ⌜ r ≡ failing (now (faults .entry)) n ⌝ }
 {
     let len = faults.len();

@@ -2,5 +2,6 @@
 pub mod buffering;
 pub mod chip;
 pub mod nor;
+pub mod nand;
 pub mod partition;
 pub mod types;

@@ -1,0 +1,48 @@
+-- A range that ends past the capacity is refused; any other goes from the block of its start up to its end.
+use denote.Ref.{now}
+use native.Mathlib.Omega.{arith}
+use borrow.Author.Needs.{needs}
+use Rattle.storage.specs.World.{lent, dev}
+use Prim.Native.Nat.{_*_}
+use native.Mathlib.Nat.{div-mul-le-self}
+use Rattle.storage.proofs.NandSteps.{block-most, block-some}
+use Rattle.storage.proofs.NandMoves.{start-is, number-most, range-past, range-done}
+use Rattle.storage.proofs.nand.erase_range.Statement.{statement}
+use Rattle.storage.proofs.nand.erase_range.Tie as tie
+
+sat-add-requires : tie.Need-sat-add-requires
+sat-add-requires c κs = search needs
+
+returns : tie.Need-returns
+returns c b = range-past (lent (now (c .before .before .before .before .before .before .args .faults)) (now (c .before .before .before .before .before .before .args .marks))) (c .before .before .before .before .before .before .args .start) (c .before .before .before .before .before .before .args .size) (dev (c .before .before .before .before .before .before .args .s) (now (c .before .before .before .before .before .before .args .chip)) b) (c .before .before .sat-add .result) (c .before .before .sat-add .ensures) (c .if1 .taken)
+
+mul-block : tie.Need-mul-block
+mul-block c = omega (arith, block-most (c .before .before .before .before .before .before .before .pre))
+
+page-number-requires : tie.Need-page-number-requires
+page-number-requires c κs = block-some (c .before .before .before .before .before .before .before .pre)
+
+mul-first : tie.Need-mul-first
+mul-first c = rw (c .page-number .ensures) (omega (arith, div-mul-le-self (c .before .before .before .before .before .before .before .before .args .start) (c .before .before .before .before .before .before .before .before .args .s .shape .page * c .before .before .before .before .before .before .before .before .args .s .shape .pages)))
+
+erase-all-requires : tie.Need-erase-all-requires
+erase-all-requires c κs = (c .before .before .before .before .before .before .before .before .before .pre, number-most (c .before .page-number .result) (c .before .before .before .before .before .before .before .before .before .args .s .shape .page * c .before .before .before .before .before .before .before .before .before .args .s .shape .pages) (block-some (c .before .before .before .before .before .before .before .before .before .pre)), omega (arith, c .before .before .before .before .before .before .before .before .before .pre .capacity-most, c .before .before .before .if1 .left))
+
+same-length : tie.Need-same-length
+same-length c = search needs
+
+returns-2 : tie.Need-returns-2
+returns-2 c b = range-done (lent (now (c .before .before .before .before .before .before .before .before .before .before .before .before .args .faults)) (now (c .before .before .before .before .before .before .before .before .before .before .before .before .args .marks))) (c .before .before .before .before .before .before .before .before .before .before .before .before .args .start) (c .before .before .before .before .before .before .before .before .before .before .before .before .args .size) (dev (c .before .before .before .before .before .before .before .before .before .before .before .before .args .s) (now (c .before .before .before .before .before .before .before .before .before .before .before .before .args .chip)) b) (c .before .before .before .before .before .before .before .before .sat-add .result) (c .before .before .before .before .before .before .before .before .sat-add .ensures) (c .before .before .before .before .page-number .result) (c .before .before .before .before .page-number .result * (c .before .before .before .before .before .before .before .before .before .before .before .before .args .s .shape .page * c .before .before .before .before .before .before .before .before .before .before .before .before .args .s .shape .pages)) (c .before .before .before .before .before .before .if1 .left) (c .before .before .before .before .page-number .ensures) (rw (c .before .before .before .before .page-number .ensures) (start-is (c .before .before .before .before .before .before .before .before .before .before .before .before .args .s .shape .page * c .before .before .before .before .before .before .before .before .before .before .before .before .args .s .shape .pages) (c .before .before .before .before .before .before .before .before .before .before .before .before .args .start))) (c .before .before .erase-all .ensures b)
+
+pub erase-range-spec : {M : Type 1} → statement M
+erase-range-spec =
+    tie.close
+    (tie.spec
+    sat-add-requires
+    returns
+    mul-block
+    page-number-requires
+    mul-first
+    erase-all-requires
+    same-length
+    returns-2)
