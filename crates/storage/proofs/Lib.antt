@@ -1,3 +1,4 @@
 pub mod Pages
 pub mod Chips
 pub mod Fold
+pub mod Partitions
