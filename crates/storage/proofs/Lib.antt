@@ -8,3 +8,4 @@ pub mod NandCalls
 pub mod NandKeeps
 pub mod NandSteps
 pub mod NandMoves
+pub mod Partitions
