@@ -1,7 +1,7 @@
 // Partitions, modelled chips and the buffering over them, from storage.rs: what the engine stands on.
 pub mod buffering;
 pub mod chip;
-pub mod nor;
 pub mod nand;
+pub mod nor;
 pub mod partition;
 pub mod types;
