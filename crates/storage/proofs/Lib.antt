@@ -2,3 +2,5 @@ pub mod Pages
 pub mod Chips
 pub mod Fold
 pub mod Partitions
+pub mod Powers
+pub mod Opens
