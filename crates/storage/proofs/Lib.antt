@@ -9,3 +9,5 @@ pub mod NandKeeps
 pub mod NandSteps
 pub mod NandMoves
 pub mod Partitions
+pub mod Powers
+pub mod Opens

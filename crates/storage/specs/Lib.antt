@@ -4,3 +4,5 @@ pub mod Fold
 pub mod Nor
 pub mod Nand
 pub mod Partition
+pub mod Open
+pub mod OpenExamples

@@ -93,3 +93,9 @@ wanted name = trim (until 0x3B name)
 -- where a named partition starts; a text that is not UTF-8 names none
 unfoldable pub lookup : Lists → List ℕ → Found
 lookup l name = cond (listsOk l) (cond (isUtf8 name) (find (wanted name) (parts l)) Nothing) Refused
+
+-- 01's number of a lookup's answer: done, failed, refused
+abbrev pub foundNumber : Found → ℕ
+foundNumber (At o) = 0
+foundNumber Nothing = 1
+foundNumber Refused = 9

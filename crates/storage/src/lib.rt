@@ -3,5 +3,6 @@ pub mod buffering;
 pub mod chip;
 pub mod nand;
 pub mod nor;
+pub mod open;
 pub mod partition;
 pub mod types;

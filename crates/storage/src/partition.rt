@@ -22,7 +22,7 @@ pub enum Table {
     Ends(u64),
 }
 
-fn larger(a: u64, b: u64) -> u64
+pub(crate) fn larger(a: u64, b: u64) -> u64
     ensures { λ r. ⌜ r ≡ max a b ⌝ }
 {
     if a < b { b } else { a }
