@@ -9,6 +9,9 @@ use borrow.Author.Needs.{needs}
 use Rattle.storage.proofs.nor.piece.Statement.{statement}
 use Rattle.storage.proofs.nor.piece.Tie as tie
 
+add-next : tie.Need-add-next
+add-next c = search needs
+
 load-requires : tie.Need-load-requires
 load-requires c κs = search needs
 
@@ -23,9 +26,6 @@ returns c = piece-unloaded 4096 (loads (now (c .before .before .before .before .
 
 put-requires : tie.Need-put-requires
 put-requires c κs = search needs
-
-add-next : tie.Need-add-next
-add-next c = search needs
 
 add-if2 : tie.Need-add-if2
 add-if2 c = search needs
@@ -55,12 +55,12 @@ pub piece-spec : {M : Type 1} → statement M
 piece-spec =
     tie.close
     (tie.spec
+    add-next
     load-requires
     same-length
     same-length-2
     returns
     put-requires
-    add-next
     add-if2
     same-length-3
     same-length-4
