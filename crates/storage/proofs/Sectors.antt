@@ -8,7 +8,7 @@ use borrow.Rule.Slice.PartMut.{putMid}
 use lib.ListN.{length, take, drop, replicate, length-replicate, replicate-append-replicate}
 use Rattle.wire.specs.Bytes.{laid}
 use Rattle.storage.specs.declared.types.Store.{Store}
-use Rattle.storage.specs.World.{Dev, dev, Out, out}
+use Rattle.storage.specs.World.{Dev, dev, out}
 use Rattle.storage.specs.Chip.{failing, able, nextCall, called, over}
 use Rattle.storage.specs.Nor.{blank, eraseSector, writeBytes}
 use Rattle.storage.proofs.Chips.{able-fits, part-length}

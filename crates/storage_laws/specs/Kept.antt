@@ -7,11 +7,11 @@ use Prim.Native.Nat.{ℕ, zero, suc, _+_, _-_, _%_, _≤_, _<_, min}
 use native.Mathlib.Omega.{arith}
 use borrow.Author.Tests.{leb-true}
 use lib.Dec.{leb, eqb}
-use lib.ListN.{length, take, drop, set, length-set}
+use lib.ListN.{length, take, drop, length-set}
 use lib.Seq.{length-front}
 use Rattle.storage.specs.declared.types.Shape.{Shape}
 use Rattle.storage.specs.declared.types.Store.{Store}
-use Rattle.storage.specs.World.{Dev, dev, Out, out, andThen, Told, told, Seen, seen}
+use Rattle.storage.specs.World.{Dev, dev, Out, out, andThen, told, seen}
 use Rattle.storage.specs.Chip.{nextCall, called, fetched}
 use Rattle.storage.specs.Fold.{run, base, writes}
 use Rattle.storage.specs.Nor.{eraseSector, writeBytes, freed, holding, holds, flushes, reads, loads, closes, written, eraseN, pagesOf, satAdd, erased, readOut}

@@ -9,12 +9,12 @@ use native.Mathlib.Omega.{arith}
 use lib.ListN.{length, take, drop, set, length-append}
 use lib.Seq.{sets, length-sets, sets-eq}
 use Rattle.storage.specs.declared.types.Shape.{Shape}
-use Rattle.storage.specs.World.{Dev, dev, Out, out, Told, told}
+use Rattle.storage.specs.World.{Dev, dev, out, Told, told}
 use Rattle.storage.specs.Fold.{Run, run, writes}
 use Rattle.storage.specs.Nor.{loads, closes, flushes, written}
 use Rattle.storage.proofs.Fold.{writes-append, reached, no-less}
 use Rattle.storage.proofs.Nors.{written-told}
-use Rattle.storage_laws.specs.Kept.{Kept, writes-kept}
+use Rattle.storage_laws.specs.Kept.{writes-kept}
 use Rattle.storage_laws.specs.View.{Quiet, Shows, view, writes-show, flush-shows, free-shows}
 
 -- ---- the cut law, whatever fails later: what counts is that the first part went through
@@ -76,6 +76,12 @@ stream F a (p ∷ ps) d =
     let r = stream F (a + length p) ps (t .dev) in
     told 0 (t .count + r .count) (r .dev)
 
+-- a piece, and then the others
+stream-cons : (F : List ℕ) (a : ℕ) (p : List ℕ) (ps : List (List ℕ)) (d : Dev) (m n k : ℕ) (e f : Dev) → written F a p d ≡ told 0 m e → stream F (a + length p) ps e ≡ told 0 n f
+    → k ≡ m + n → stream F a (p ∷ ps) d ≡ told 0 k f
+unfolding stream
+stream-cons F a p ps d m n k e f q r h = rw (q, r, h)
+
 told-of : (F : List ℕ) (a : ℕ) (xs : List ℕ) (n : ℕ) (d e : Dev) → a + length xs ≤ d .store .shape .capacity
     → writes 4096 (loads F) (closes F) xs (run true a d) ≡ run true (a + n) e → written F a xs d ≡ told 0 n e
 told-of F a xs n d e c q = sym (written-told F a xs d c (sym q)) ∙ ap (λ (j : ℕ). told 0 j e) (add-sub-cancel-left a n)
@@ -121,7 +127,7 @@ module _ (F : List ℕ) (quiet : Quiet F) where
       let b : a + length p + length (joined ps) ≤ length (sets v a p) = rw (length-sets v a p) (omega arith) in
       let r = stream-shows ps (sets v a p) sh (a + length p) (w .0) (w .2) b (omega arith) in (
         r .0,
-        joins _ _ _ _ _ _ _ (w .1) (ap (λ (t : Told). stream F (a + length p) ps (t .dev)) (w .1) ∙ r .1) n,
+        stream-cons F a p ps d (length p) (length (joined ps)) (length (p ++ joined ps)) (w .0) (r .0) (w .1) (r .1) n,
         subst (λ (l : List ℕ). Shows l sh (r .0)) (sym (sets-append p (joined ps) v a)) (r .2),
       )
 

@@ -14,8 +14,8 @@ use lib.Seq.{length-take-le, take-at, sets}
 use Rattle.storage.specs.declared.types.Erased.{Erased}
 use Rattle.storage.specs.declared.types.Shape.{Shape}
 use Rattle.storage.specs.declared.types.Store.{Store}
-use Rattle.storage.specs.World.{Dev, dev, Out, out}
-use Rattle.storage.specs.Chip.{failing, nextCall, called, over, fetched}
+use Rattle.storage.specs.World.{Dev, dev, out}
+use Rattle.storage.specs.Chip.{failing, nextCall, called, over}
 use Rattle.storage.specs.Fold.{Run, run, base, seals, step, writes}
 use Rattle.storage.specs.Nor.{holding, holds, flushes, loads, closes}
 use Rattle.storage.proofs.Over.{over-same, over-set}

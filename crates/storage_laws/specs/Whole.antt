@@ -2,22 +2,26 @@
 -- the erase leaves every touched sector blank. Write and flush are in Stream and View.
 use mathlib.Core.Path.{_≡_, refl, sym, ap, ap₂, subst, _∙_}
 use mathlib.Core.Bool.{true, false}
-use mathlib.Core.List.{List, [], _++_}
-use Prim.Native.Nat.{ℕ, zero, suc, _+_, _-_, _*_, _%_, _/_, _≤_, min}
+use mathlib.Core.List.{List, _++_}
+use Prim.Native.Nat.{ℕ, zero, suc, _+_, _-_, _*_, _%_, _≤_, min}
 use native.Mathlib.Omega.{arith}
 use lib.ListN.{length, take, drop, replicate, length-replicate}
 use lib.Seq.{length-take-le}
 use Rattle.storage.specs.declared.types.Shape.{Shape}
 use Rattle.storage.specs.declared.types.Store.{Store}
-use Rattle.storage.specs.World.{Dev, dev, Out, out, andThen, Seen, told, seen}
-use Rattle.storage.specs.Chip.{called, over, got, fetched}
+use Rattle.storage.specs.World.{Dev, dev, Out, out, andThen, told, seen}
+use Rattle.storage.specs.Chip.{called, over}
 use Rattle.storage.specs.Fold.{base}
-use Rattle.storage.specs.Nor.{blank, eraseSector, flushes, eraseN, pagesOf, satAdd, erased, readOut}
+use Rattle.storage.specs.Nor.{blank, flushes, eraseN, pagesOf, satAdd, erased, readOut}
 use Rattle.storage.proofs.Over.{length-over, over-nil, over-append}
 use Rattle.storage.proofs.Programs.{fetched-well}
 use Rattle.storage.proofs.Sectors.{length-blank, blank-more, erase-well}
 use Rattle.storage.proofs.Nors.{read-none, read-told, erased-told}
 use Rattle.storage_laws.specs.View.{Quiet, Shows, flush-shows, free-shows, called-shows}
+
+-- v with every sector blank that a range touches
+abbrev pub wiped : ℕ → ℕ → List ℕ → List ℕ
+wiped start size v = let b = base 4096 start in over b (replicate (pagesOf 4096 (satAdd start size - b) * 4096) 255) v
 
 module _ (F : List ℕ) (quiet : Quiet F) where
   -- ---- read
@@ -75,26 +79,31 @@ module _ (F : List ℕ) (quiet : Quiet F) where
   covered : (b m n : ℕ) → b % 4096 ≡ 0 → n % 4096 ≡ 0 → b + m ≤ n → b + pagesOf 4096 m * 4096 ≤ n
   covered b m n p q h = omega arith
 
+  -- the run from the state that the flush left
+  module _ (sh : Shape) (start size : ℕ) (d f : Dev) (p : flushes F d ≡ out true f) (q : f .store .held ≡ false) (s : Shows (f .chip) sh f) (c : satAdd start size ≤ sh .capacity)
+      (fits : base 4096 start + pagesOf 4096 (satAdd start size - base 4096 start) * 4096 ≤ length (f .chip)) where
+    length-wiped : length (wiped start size (f .chip)) ≡ length (f .chip)
+    length-wiped = length-over (base 4096 start) _ (f .chip) (rw (length-replicate {A = ℕ} (pagesOf 4096 (satAdd start size - base 4096 start) * 4096) 255) fits)
+
+    wiped-shows : (t : Store) → t .held ≡ false → t .shape ≡ sh → Shows (wiped start size (f .chip)) sh (dev t (wiped start size (f .chip)) (f .buf))
+    wiped-shows t h g =
+        subst (λ (j : Shape). Shows (wiped start size (f .chip)) j (dev t (wiped start size (f .chip)) (f .buf))) g
+        (free-shows (dev t (wiped start size (f .chip)) (f .buf)) h (s .room) (rw length-wiped (s .whole)))
+
+    erase-after : (e : Dev) × (erased F start size d ≡ out true e) × (e .store .held ≡ false) × Shows (wiped start size (f .chip)) sh e
+    erase-after =
+        let r = erase-run (pagesOf 4096 (satAdd start size - base 4096 start)) (base 4096 start) (f .store) (f .chip) (f .buf) fits in (
+          dev (r .0) (wiped start size (f .chip)) (f .buf),
+          sym (erased-told F start size d (sym p) refl (satAdd start size) refl (rw (s .fixed) c) (sym (r .1))),
+          r .2 ∙ q,
+          wiped-shows (r .0) (r .2 ∙ q) (r .3 ∙ s .fixed),
+        )
+
   -- an erase whose end is within capacity and chip succeeds, holds nothing, and leaves the touched sectors blank and every other byte as it was shown
   pub erase-shows : (v : List ℕ) (sh : Shape) (start size : ℕ) (d : Dev) → Shows v sh d → start ≤ satAdd start size → satAdd start size ≤ sh .capacity → satAdd start size ≤ length v
-      → (e : Dev) × (erased F start size d ≡ out true e) × (e .store .held ≡ false)
-      × Shows (over (base 4096 start) (replicate (pagesOf 4096 (satAdd start size - base 4096 start) * 4096) 255) v) sh e
+      → (e : Dev) × (erased F start size d ≡ out true e) × (e .store .held ≡ false) × Shows (wiped start size v) sh e
   erase-shows v sh start size d s h c m =
       let w = flush-shows F quiet v sh d s in
-      let f = w .0 in
-      let b = base 4096 start in
-      let end = satAdd start size in
-      let k = pagesOf 4096 (end - b) in
-      let lf : length (f .chip) ≡ length v = w .4 .long in
-      let wf : length (f .chip) % 4096 ≡ 0 = w .4 .whole in
-      let fits : b + k * 4096 ≤ length (f .chip) = covered b (end - b) (length (f .chip)) (omega arith) wf (omega arith) in
-      let r = erase-run k b (f .store) (f .chip) (f .buf) fits in
-      let new = over b (replicate (k * 4096) 255) (f .chip) in
-      let e = dev (r .0) new (f .buf) in
-      let ln : length new ≡ length (f .chip) = length-over b (replicate (k * 4096) 255) (f .chip) (rw (length-replicate {A = ℕ} (k * 4096) 255) fits) in (
-        e,
-        sym (erased-told F start size d (sym (w .1)) refl end refl (rw (w .4 .fixed) c) (sym (r .1))),
-        r .2 ∙ w .3,
-        subst (λ (sh : Shape). Shows (over b (replicate (k * 4096) 255) v) sh e) (r .3 ∙ w .4 .fixed)
-            (subst (λ (l : List ℕ). Shows (over b (replicate (k * 4096) 255) l) (r .0 .shape) e) (w .2) (free-shows e (r .2 ∙ w .3) (w .4 .room) (rw ln wf))),
-      )
+      let z : length v % 4096 ≡ 0 = rw (s .long) at (s .whole) in
+      let fits : base 4096 start + pagesOf 4096 (satAdd start size - base 4096 start) * 4096 ≤ length v = covered (base 4096 start) (satAdd start size - base 4096 start) (length v) (omega arith) z (omega arith) in
+      rw (w .2) at (erase-after sh start size d (w .0) (w .1) (w .3) (rw (w .2) (w .4)) c (rw (w .2) fits))

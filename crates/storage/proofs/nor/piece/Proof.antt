@@ -1,8 +1,6 @@
 -- The generic laws of a piece at sectors of 4,096 bytes: not loaded, within the sector, and up to its end, where it is flushed.
-use denote.Ref.{now}
 use native.Mathlib.Omega.{arith}
 use borrow.Author.Tests.{not-true, not-false}
-use Rattle.storage.specs.Nor.{loads, closes}
 use Rattle.storage.proofs.Fold.{piece-unloaded}
 use Rattle.storage.proofs.Nors.{piece-open, piece-full}
 use borrow.Author.Needs.{needs}
@@ -22,7 +20,7 @@ same-length-2 : tie.Need-same-length-2
 same-length-2 c = search needs
 
 returns : tie.Need-returns
-returns c = piece-unloaded 4096 (loads (now (c .before .before .before .before .before .before .before .before .before .before .before .before .before .before .args .faults))) (closes (now (c .before .before .before .before .before .before .before .before .before .before .before .before .before .before .args .faults))) _ _ (c .before .before .before .before .before .before .before .load .ensures) _ (c .before .before .before .before .before .before .before .before .before .before .before .before .before .before .pre .1) (search not-true)
+returns c = piece-unloaded _ _ _ _ _ (c .before .before .before .before .before .before .before .load .ensures) _ (c .before .before .before .before .before .before .before .before .before .before .before .before .before .before .pre .1) (search not-true)
 
 put-requires : tie.Need-put-requires
 put-requires c κs = search needs
