@@ -3,18 +3,19 @@
 use mathlib.Core.Path.{_≡_, refl, sym, ap, _∙_}
 use mathlib.Core.Bool.{Bool, true, false, cond}
 use mathlib.Core.List.{List, _++_}
-use Prim.Native.Nat.{ℕ, suc, _+_, _-_, _*_, _%_, _≤_, _<_, min}
+use Prim.Native.Nat.{ℕ, suc, _+_, _-_, _*_, _%_, _≤_, _<_, min, zero-le}
 use native.Mathlib.Omega.{arith}
 use borrow.Author.Tests.{le-leb, lt-leb, eq-eqb, ne-eqb}
+use lib.Dec.{leb, eqb}
 use lib.ListN.{length, take, drop}
 use lib.Seq.{sets}
 use Rattle.wire.specs.Bytes.{laid}
 use Rattle.storage.specs.declared.types.Store.{Store}
-use Rattle.storage.specs.World.{Dev, dev, Out, out, andThen, told, seen}
+use Rattle.storage.specs.World.{Dev, dev, Out, out, andThen, Told, told, Seen, seen}
 use Rattle.storage.specs.Chip.{Got, fetched}
 use Rattle.storage.specs.Fold.{Run, run, base, seals, writes}
 use Rattle.storage.specs.Nor.{eraseSector, writeBytes, freed, holding, holds, flushes, reads, loads, closes, written, eraseN, pagesOf, satAdd, erased, readOut}
-use Rattle.storage.proofs.Fold.{false-true, piece, laid-sets}
+use Rattle.storage.proofs.Fold.{false-true, no-more, piece, laid-sets}
 
 -- ---- a flush
 
@@ -133,6 +134,17 @@ module _ (F : List ℕ) (off : ℕ) (xs : List ℕ) (d : Dev) where
   unfolding written
   written-told k p = rw (← p, le-leb (off + length xs) (d .store .shape .capacity) k)
 
+counted : (b : Bool) (x n : ℕ) (d e : Dev) → x ≤ n → (cond b (told 0 x e) (told 0 0 d)) .count ≤ n
+counted true x n d e h = h
+counted false x n d e h = zero-le
+
+-- a write counts no more bytes than it is given
+pub written-count : (F : List ℕ) (off : ℕ) (xs : List ℕ) (d : Dev) {t : Told} → t ≡ written F off xs d → t .count ≤ length xs
+unfolding written
+written-count F off xs d q =
+    let h = no-more 4096 (loads F) (closes F) xs (run true off d) in
+    rw q (counted (leb (off + length xs) (d .store .shape .capacity)) _ (length xs) d _ (omega arith))
+
 -- ---- a read
 
 module _ (F : List ℕ) (off : ℕ) (room : List ℕ) (d : Dev) {f : Out} (p : f ≡ flushes F d) where
@@ -149,6 +161,22 @@ module _ (F : List ℕ) (off : ℕ) (room : List ℕ) (d : Dev) {f : Out} (p : f
         → seen (told 0 k (dev (g .store) (f .dev .chip) (f .dev .buf))) (g .room ++ drop n room) ≡ readOut F off room d
     unfolding readOut
     read-told z r w = rw (← p, ← q, ← r, ← w, t, ne-eqb n 0 z)
+
+counts : (b c g : Bool) (m n : ℕ) (d e : Dev) (r s : List ℕ) → n ≤ m
+    → (cond b (cond c (seen (told 0 0 d) r) (seen (told 0 (cond g n 0) e) s)) (seen (told 0 0 d) r)) .told .count ≤ m
+counts true true g m n d e r s h = zero-le
+counts true false true m n d e r s h = h
+counts true false false m n d e r s h = zero-le
+counts false c g m n d e r s h = zero-le
+
+-- a read counts no more bytes than its room has
+pub read-count : (F : List ℕ) (off : ℕ) (room : List ℕ) (d : Dev) {s : Seen} → s ≡ readOut F off room d → s .told .count ≤ length room
+unfolding readOut
+read-count F off room d q =
+    let f = flushes F d in
+    let n = min (length room) (f .dev .store .shape .capacity - off) in
+    let g = fetched F off (f .dev .store) (f .dev .chip) (take n room) in
+    rw q (counts (f .ok) (eqb n 0) (g .ok) (length room) n (f .dev) (dev (g .store) (f .dev .chip) (f .dev .buf)) room (g .room ++ drop n room) (omega arith))
 
 -- ---- an erase
 

@@ -120,6 +120,7 @@ fn piece(s: Store, faults: &[u8], chip: &mut [u8], buffer: &mut [u8], addr: u64,
     requires { ⌜ (4096 ≤ length (now buffer)) × (0 < length (now part)) × (addr % 4096 + length (now part) ≤ 4096) × (addr + length (now part) < 2 ^ 64) ⌝ }
     ensures { λ r. ⌜ run (r .ok) (r .at) (dev (r .store) (now (chip .exit)) (now (buffer .exit))) ≡ writes 4096 (loads (now (faults .entry))) (closes (now (faults .entry))) (now (part .entry)) (run true addr (dev s (now (chip .entry)) (now (buffer .entry)))) ⌝ }
 {
+    let next = addr + part.len() as u64;
     let l = load(s, faults, chip, buffer, addr);
     let held = l.store;
     if !l.ok {
@@ -131,7 +132,6 @@ fn piece(s: Store, faults: &[u8], chip: &mut [u8], buffer: &mut [u8], addr: u64,
     }
     let i = (addr % 4096) as usize;
     put(buffer, i, part);
-    let next = addr + part.len() as u64;
     if i + part.len() < 4096 {
         return Ran {
             ok: true,

@@ -37,7 +37,9 @@ same-length : tie.Need-same-length Inv-loop μ-loop
 same-length c = search needs
 
 returns : tie.Need-returns Inv-loop μ-loop
-returns c = λ b. erase-failed _ _ (c .before .before .before .before .before .before .before .loop .i) _ _ (omega arith) (c .before .before .before .before .erase-sector .ensures b) (search not-true) ∙ c .before .before .before .before .before .before .before .loop .inv .2 b
+returns c =
+    let w = c .before .before .before .before .before .before .before .loop in
+    λ b. erase-failed _ _ (w .i) _ _ (omega arith) (c .before .before .before .before .erase-sector .ensures b) (search not-true) ∙ w .inv .2 b
 
 add-i : tie.Need-add-i Inv-loop μ-loop
 add-i c = search needs
@@ -46,13 +48,17 @@ loop-less : tie.Need-loop-less Inv-loop μ-loop
 loop-less c = search needs
 
 loop-again : tie.Need-loop-again Inv-loop μ-loop
-loop-again c = (omega arith, omega arith, λ b. erase-went _ _ (c .before .before .before .before .before .before .before .before .loop .i) (c .before .before .before .before .before .before .before .before .before .before .before .args .first) _ (omega arith) (c .before .before .before .before .before .erase-sector .ensures b) (search not-false) ∙ c .before .before .before .before .before .before .before .before .loop .inv .2 b)
+loop-again c =
+    let w = c .before .before .before .before .before .before .before .before .loop in
+    (omega arith, omega arith, λ b. erase-went _ _ (w .i) (c .before .before .before .before .before .before .before .before .before .before .before .args .first) _ (omega arith) (c .before .before .before .before .before .erase-sector .ensures b) (search not-false) ∙ w .inv .2 b)
 
 same-length-2 : tie.Need-same-length-2 Inv-loop μ-loop
 same-length-2 c = search needs
 
 returns-2 : tie.Need-returns-2 Inv-loop μ-loop
-returns-2 c = λ b. erase-none _ _ (c .before .loop .i) _ _ (c .loop-test .left) ∙ c .before .loop .inv .2 b
+returns-2 c =
+    let w = c .before .loop in
+    λ b. erase-none _ _ (w .i) _ _ (c .loop-test .left) ∙ w .inv .2 b
 
 pub erase-all-spec : {M : Type 1} → statement M
 erase-all-spec =

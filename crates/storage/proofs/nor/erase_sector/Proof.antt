@@ -1,5 +1,4 @@
 -- A call that may not be made leaves the chip; else the part of the sector is filled, which is an erase by `erase-filled`.
-use denote.Ref.{now}
 use mathlib.Core.Path.{refl, sym, _∙_}
 use Prim.Native.Nat.{_+_}
 use native.Mathlib.Omega.{arith}
@@ -20,10 +19,10 @@ same-length : tie.Need-same-length
 same-length c = search needs
 
 returns : tie.Need-returns
-returns c b = erase-fails (now (c .before .before .before .before .before .before .args .faults)) (c .before .before .before .before .before .before .args .s) (now (c .before .before .before .before .before .before .args .chip)) (c .before .before .before .before .before .before .args .at) b (c .before .before .before .take-call .ensures) (sym (c .before .may .ensures) ∙ not-true _ (c .if1 .taken))
+returns c b = erase-fails _ _ _ _ b (c .before .before .before .take-call .ensures) (sym (c .before .may .ensures) ∙ not-true _ (c .if1 .taken))
 
 add-end : tie.Need-add-end
-add-end c = omega (arith, able-fits (now (c .before .before .before .before .before .before .args .faults)) (c .before .before .before .before .before .before .args .s) (now (c .before .before .before .before .before .before .args .chip)) (c .before .before .before .before .before .before .args .at) 4096 (sym (c .before .may .ensures) ∙ not-false _ (c .if1 .left)))
+add-end c = omega (arith, able-fits _ _ _ _ 4096 (sym (c .before .may .ensures) ∙ not-false _ (c .if1 .left)))
 
 sub-fill : tie.Need-sub-fill
 sub-fill c = search needs
@@ -32,7 +31,7 @@ part-fill-start : tie.Need-part-fill-start
 part-fill-start c = search needs
 
 part-fill-end : tie.Need-part-fill-end
-part-fill-end c = omega (arith, able-fits (now (c .before .before .before .before .before .before .args .faults)) (c .before .before .before .before .before .before .args .s) (now (c .before .before .before .before .before .before .args .chip)) (c .before .before .before .before .before .before .args .at) 4096 (sym (c .before .may .ensures) ∙ not-false _ (c .if1 .left)))
+part-fill-end c = omega (arith, able-fits _ _ _ _ 4096 (sym (c .before .may .ensures) ∙ not-false _ (c .if1 .left)))
 
 fill-requires : tie.Need-fill-requires
 fill-requires c κs = search needs
@@ -42,7 +41,7 @@ same-length-2 c = search needs
 
 returns-2 : tie.Need-returns-2
 returns-2 c b =
-    erase-filled (now (c .before .before .before .before .before .before .before .before .before .before .args .faults)) (c .before .before .before .before .before .before .before .before .before .before .args .s) (now (c .before .before .before .before .before .before .before .before .before .before .args .chip)) (c .before .before .before .before .before .before .before .before .before .before .args .at) b (c .before .before .before .before .before .before .before .take-call .ensures) (c .before .before .before .before .before .before .before .before .before .before .args .at + 4096)
+    erase-filled _ _ _ _ b (c .before .before .before .before .before .before .before .take-call .ensures) (c .before .before .before .before .before .before .before .before .before .before .args .at + 4096)
     (sym (c .before .before .before .before .before .may .ensures) ∙ not-false _ (c .before .before .before .before .if1 .left)) refl (c .before .before .fill .ensures)
 
 pub erase-sector-spec : {M : Type 1} → statement M

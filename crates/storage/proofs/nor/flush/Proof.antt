@@ -30,13 +30,17 @@ same-length-2 : tie.Need-same-length-2
 same-length-2 c = search needs
 
 returns-3 : tie.Need-returns-3
-returns-3 c = flush-unwritten _ _ (search not-false) (c .before .before .before .before .before .before .before .before .before .before .before .before .erase-sector .ensures (now (c .before .before .before .before .before .before .before .before .before .before .before .before .before .before .before .before .before .before .before .args .buffer))) (search not-false) (c .before .before .before .before .write-bytes .ensures (now (c .before .before .before .before .before .before .before .before .before .before .before .before .before .before .before .before .before .before .before .args .buffer))) (search not-true)
+returns-3 c =
+    let z = c .before .before .before .before .before .before .before .before .before .before .before .before .before .before .before .before .before .before .before .args in
+    flush-unwritten _ _ (search not-false) (c .before .before .before .before .before .before .before .before .before .before .before .before .erase-sector .ensures (now (z .buffer))) (search not-false) (c .before .before .before .before .write-bytes .ensures (now (z .buffer))) (search not-true)
 
 same-length-3 : tie.Need-same-length-3
 same-length-3 c = search needs
 
 returns-4 : tie.Need-returns-4
-returns-4 c = flush-done _ _ (search not-false) (c .before .before .before .before .before .before .before .before .before .before .before .before .before .erase-sector .ensures (now (c .before .before .before .before .before .before .before .before .before .before .before .before .before .before .before .before .before .before .before .before .args .buffer))) (search not-false) (c .before .before .before .before .before .write-bytes .ensures (now (c .before .before .before .before .before .before .before .before .before .before .before .before .before .before .before .before .before .before .before .before .args .buffer))) (search not-false)
+returns-4 c =
+    let z = c .before .before .before .before .before .before .before .before .before .before .before .before .before .before .before .before .before .before .before .before .args in
+    flush-done _ _ (search not-false) (c .before .before .before .before .before .before .before .before .before .before .before .before .before .erase-sector .ensures (now (z .buffer))) (search not-false) (c .before .before .before .before .before .write-bytes .ensures (now (z .buffer))) (search not-false)
 
 pub flush-spec : {M : Type 1} → statement M
 flush-spec =

@@ -1,13 +1,14 @@
 -- The generic laws of a piece at sectors of 4,096 bytes: not loaded, within the sector, and up to its end, where it is flushed.
-use denote.Ref.{now}
 use native.Mathlib.Omega.{arith}
 use borrow.Author.Tests.{not-true, not-false}
-use Rattle.storage.specs.Nor.{loads, closes}
 use Rattle.storage.proofs.Fold.{piece-unloaded}
 use Rattle.storage.proofs.Nors.{piece-open, piece-full}
 use borrow.Author.Needs.{needs}
 use Rattle.storage.proofs.nor.piece.Statement.{statement}
 use Rattle.storage.proofs.nor.piece.Tie as tie
+
+add-next : tie.Need-add-next
+add-next c = search needs
 
 load-requires : tie.Need-load-requires
 load-requires c κs = search needs
@@ -19,13 +20,10 @@ same-length-2 : tie.Need-same-length-2
 same-length-2 c = search needs
 
 returns : tie.Need-returns
-returns c = piece-unloaded 4096 (loads (now (c .before .before .before .before .before .before .before .before .before .before .before .before .before .before .args .faults))) (closes (now (c .before .before .before .before .before .before .before .before .before .before .before .before .before .before .args .faults))) _ _ (c .before .before .before .before .before .before .before .load .ensures) _ (c .before .before .before .before .before .before .before .before .before .before .before .before .before .before .pre .1) (search not-true)
+returns c = piece-unloaded _ _ _ _ _ (c .before .before .before .before .before .before .before .load .ensures) _ (c .before .before .before .before .before .before .before .before .before .before .before .before .before .before .pre .1) (search not-true)
 
 put-requires : tie.Need-put-requires
 put-requires c κs = search needs
-
-add-next : tie.Need-add-next
-add-next c = search needs
 
 add-if2 : tie.Need-add-if2
 add-if2 c = search needs
@@ -55,12 +53,12 @@ pub piece-spec : {M : Type 1} → statement M
 piece-spec =
     tie.close
     (tie.spec
+    add-next
     load-requires
     same-length
     same-length-2
     returns
     put-requires
-    add-next
     add-if2
     same-length-3
     same-length-4

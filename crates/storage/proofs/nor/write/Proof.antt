@@ -1,7 +1,5 @@
 -- The laws of a write: past the capacity, or what all its pieces leave, whose next address is no less than the first.
-use denote.Ref.{now}
 use native.Mathlib.Omega.{arith}
-use Rattle.storage.specs.Nor.{loads, closes}
 use Rattle.storage.proofs.Fold.{no-less}
 use Rattle.storage.proofs.Nors.{written-past, written-told}
 use borrow.Author.Needs.{needs}
@@ -18,7 +16,7 @@ write-all-requires : tie.Need-write-all-requires
 write-all-requires c κs = search needs
 
 sub-count : tie.Need-sub-count
-sub-count c = no-less 4096 (loads (now (c .before .before .before .before .before .before .before .before .before .before .before .before .before .before .args .faults))) (closes (now (c .before .before .before .before .before .before .before .before .before .before .before .before .before .before .args .faults))) _ _ _ (c .before .before .before .before .before .write-all .ensures)
+sub-count c = no-less _ _ _ _ _ _ (c .before .before .before .before .before .write-all .ensures)
 
 same-length : tie.Need-same-length
 same-length c = search needs

@@ -60,7 +60,7 @@ same-length-2 : tie.Need-same-length-2 Inv-loop μ-loop
 same-length-2 c = search needs
 
 returns : tie.Need-returns Inv-loop μ-loop
-returns c = piece-failed 4096 (loads (now (c .before .before .before .before .before .before .before .before .before .before .before .before .before .before .before .before .before .args .faults))) (closes (now (c .before .before .before .before .before .before .before .before .before .before .before .before .before .before .before .before .before .args .faults))) _ (c .before .before .before .before .before .before .before .before .before .before .before .before .loop .done) (c .before .before .before .before .before .before .before .before .before .before .before .before .loop .done + c .before .before .before .before .before .before .before .before .before .before .least .result) (c .before .before .before .before .before .before .before .before .before .before .before .before .before .before .before .before .before .args .offset) _ (omega arith) (c .before .before .before .before .before .before .piece .ensures) (search not-true) ∙ c .before .before .before .before .before .before .before .before .before .before .before .before .loop .inv .3
+returns c = piece-failed _ _ _ _ (c .before .before .before .before .before .before .before .before .before .before .before .before .loop .done) (c .before .before .before .before .before .before .before .before .before .before .before .before .loop .done + c .before .before .before .before .before .before .before .before .before .before .least .result) (c .before .before .before .before .before .before .before .before .before .before .before .before .before .before .before .before .before .args .offset) _ (omega arith) (c .before .before .before .before .before .before .piece .ensures) (search not-true) ∙ c .before .before .before .before .before .before .before .before .before .before .before .before .loop .inv .3
 
 loop-less : tie.Need-loop-less Inv-loop μ-loop
 loop-less c = search needs
@@ -70,7 +70,7 @@ loop-again c = (
   omega arith,
   omega arith,
   omega arith,
-  piece-went 4096 (loads (now (c .before .before .before .before .before .before .before .before .before .before .before .before .before .before .before .before .before .before .args .faults))) (closes (now (c .before .before .before .before .before .before .before .before .before .before .before .before .before .before .before .before .before .before .args .faults))) _ (c .before .before .before .before .before .before .before .before .before .before .before .before .before .loop .done) (c .before .before .before .before .before .before .before .before .before .before .before .before .before .loop .done + c .before .before .before .before .before .before .before .before .before .before .before .least .result) (c .before .before .before .before .before .before .before .before .before .before .before .before .before .before .before .before .before .before .args .offset) _ (omega arith) (c .before .before .before .before .before .before .before .piece .ensures) (omega arith) (search not-false) ∙ c .before .before .before .before .before .before .before .before .before .before .before .before .before .loop .inv .3,
+  piece-went _ _ _ _ (c .before .before .before .before .before .before .before .before .before .before .before .before .before .loop .done) (c .before .before .before .before .before .before .before .before .before .before .before .before .before .loop .done + c .before .before .before .before .before .before .before .before .before .before .before .least .result) (c .before .before .before .before .before .before .before .before .before .before .before .before .before .before .before .before .before .before .args .offset) _ (omega arith) (c .before .before .before .before .before .before .before .piece .ensures) (omega arith) (search not-false) ∙ c .before .before .before .before .before .before .before .before .before .before .before .before .before .loop .inv .3,
 )
 
 add-at : tie.Need-add-at Inv-loop μ-loop
@@ -83,7 +83,7 @@ same-length-4 : tie.Need-same-length-4 Inv-loop μ-loop
 same-length-4 c = search needs
 
 returns-2 : tie.Need-returns-2 Inv-loop μ-loop
-returns-2 c = finished 4096 (loads (now (c .before .before .before .before .before .before .args .faults))) (closes (now (c .before .before .before .before .before .before .args .faults))) (now (c .before .before .before .before .before .before .args .bytes)) (c .before .loop .done) _ (c .loop-test .left) ∙ c .before .loop .inv .3
+returns-2 c = finished _ _ _ (now (c .before .before .before .before .before .before .args .bytes)) (c .before .loop .done) _ (c .loop-test .left) ∙ c .before .loop .inv .3
 
 pub write-all-spec : {M : Type 1} → statement M
 write-all-spec =

@@ -1,5 +1,4 @@
 -- A call that may not be made leaves the chip; else the bytes are laid over it, which is a write by `write-laid`.
-use denote.Ref.{now}
 use mathlib.Core.Path.{sym, _∙_}
 use borrow.Author.Tests.{not-true, not-false}
 use Rattle.storage.proofs.Sectors.{write-fails, write-laid}
@@ -17,7 +16,7 @@ same-length : tie.Need-same-length
 same-length c = search needs
 
 returns : tie.Need-returns
-returns c b = write-fails (now (c .before .before .before .before .before .before .before .args .faults)) (c .before .before .before .before .before .before .before .args .s) (now (c .before .before .before .before .before .before .before .args .chip)) (c .before .before .before .before .before .before .before .args .at) b (c .before .before .before .take-call .ensures) _ (sym (c .before .may .ensures) ∙ not-true _ (c .if1 .taken))
+returns c b = write-fails _ _ _ _ b (c .before .before .before .take-call .ensures) _ (sym (c .before .may .ensures) ∙ not-true _ (c .if1 .taken))
 
 put-requires : tie.Need-put-requires
 put-requires c κs = search needs
@@ -26,7 +25,7 @@ same-length-2 : tie.Need-same-length-2
 same-length-2 c = search needs
 
 returns-2 : tie.Need-returns-2
-returns-2 c b = write-laid (now (c .before .before .before .before .before .before .before .before .before .before .before .args .faults)) (c .before .before .before .before .before .before .before .before .before .before .before .args .s) (now (c .before .before .before .before .before .before .before .before .before .before .before .args .chip)) (c .before .before .before .before .before .before .before .before .before .before .before .args .at) b (c .before .before .before .before .before .before .before .take-call .ensures) _ (sym (c .before .before .before .before .before .may .ensures) ∙ not-false _ (c .before .before .before .before .if1 .left)) (c .before .before .put .ensures)
+returns-2 c b = write-laid _ _ _ _ b (c .before .before .before .before .before .before .before .take-call .ensures) _ (sym (c .before .before .before .before .before .may .ensures) ∙ not-false _ (c .before .before .before .before .if1 .left)) (c .before .before .put .ensures)
 
 pub write-bytes-spec : {M : Type 1} → statement M
 write-bytes-spec =

@@ -1,0 +1,4 @@
+pub mod Kept
+pub mod View
+pub mod Stream
+pub mod Whole
