@@ -14,13 +14,19 @@ fails-requires : tie.Need-fails-requires
 fails-requires c κs = search needs
 
 returns : tie.Need-returns
-returns c c₁ b₁ = asked-fails (lent (now (c .before .before .before .before .before .args .faults)) (now (c .before .before .before .before .before .args .marks))) (c .before .before .before .before .before .args .k) (c .before .before .before .before .before .args .s) _ _ (c .before .before .take-call .ensures) (sym (c .before .fails .ensures) ∙ c .if1 .taken)
+returns c c₁ b₁ =
+    let z = c .before .before .before .before .before .args in
+    let l = lent (now (z .faults)) (now (z .marks)) in
+    asked-fails l (z .k) (z .s) _ _ (c .before .before .take-call .ensures) (sym (c .before .fails .ensures) ∙ c .if1 .taken)
 
 shared-slice-read-t9 : tie.Need-shared-slice-read-t9
 shared-slice-read-t9 c = search needs
 
 returns-2 : tie.Need-returns-2
-returns-2 c c₁ b₁ = asked (lent (now (c .before .before .before .before .before .before .args .faults)) (now (c .before .before .before .before .before .before .args .marks))) (c .before .before .before .before .before .before .args .k) (c .before .before .before .before .before .before .args .s) _ _ (c .before .before .before .take-call .ensures) (sym (c .before .before .fails .ensures) ∙ c .before .if1 .left)
+returns-2 c c₁ b₁ =
+    let z = c .before .before .before .before .before .before .args in
+    let l = lent (now (z .faults)) (now (z .marks)) in
+    asked l (z .k) (z .s) _ _ (c .before .before .before .take-call .ensures) (sym (c .before .before .fails .ensures) ∙ c .before .if1 .left)
 
 pub ask-good-spec : {M : Type 1} → statement M
 ask-good-spec =

@@ -9,7 +9,9 @@ use Rattle.storage.proofs.nand.burn.Statement.{statement}
 use Rattle.storage.proofs.nand.burn.Tie as tie
 
 slice-aggregate-program-page : tie.Need-slice-aggregate-program-page
-slice-aggregate-program-page c = sym (length-take-le (c .before .before .before .before .before .args .s .shape .page) (now (c .before .before .before .before .before .args .buffer)) (c .before .before .before .before .before .pre))
+slice-aggregate-program-page c =
+    let z = c .before .before .before .before .before .args in
+    sym (length-take-le (z .s .shape .page) (now (z .buffer)) (c .before .before .before .before .before .pre))
 
 program-page-requires : tie.Need-program-page-requires
 program-page-requires c κs = search needs
@@ -18,7 +20,10 @@ same-length : tie.Need-same-length
 same-length c = search needs
 
 returns : tie.Need-returns
-returns c m = burns-done (lent (now (c .before .before .before .before .before .before .before .before .before .args .faults)) m) (dev (c .before .before .before .before .before .before .before .before .before .args .s) (now (c .before .before .before .before .before .before .before .before .before .args .chip)) (now (c .before .before .before .before .before .before .before .before .before .args .buffer))) (c .before .before .before .program-page .ensures (now (c .before .before .before .before .before .before .before .before .before .args .buffer))) (c .if1 .taken)
+returns c m =
+    let z = c .before .before .before .before .before .before .before .before .before .args in
+    let d = dev (z .s) (now (z .chip)) (now (z .buffer)) in
+    burns-done (lent (now (z .faults)) m) d (c .before .before .before .program-page .ensures (now (z .buffer))) (c .if1 .taken)
 
 remember-requires : tie.Need-remember-requires
 remember-requires c κs = search needs
@@ -27,7 +32,10 @@ same-length-2 : tie.Need-same-length-2
 same-length-2 c = search needs
 
 returns-2 : tie.Need-returns-2
-returns-2 c m = burns-not (lent (now (c .before .before .before .before .before .before .before .before .before .before .before .args .faults)) m) (dev (c .before .before .before .before .before .before .before .before .before .before .before .args .s) (now (c .before .before .before .before .before .before .before .before .before .before .before .args .chip)) (now (c .before .before .before .before .before .before .before .before .before .before .before .args .buffer))) (c .before .before .before .before .before .program-page .ensures (now (c .before .before .before .before .before .before .before .before .before .before .before .args .buffer))) (c .before .before .if1 .left) (c .remember .ensures)
+returns-2 c m =
+    let z = c .before .before .before .before .before .before .before .before .before .before .before .args in
+    let d = dev (z .s) (now (z .chip)) (now (z .buffer)) in
+    burns-not (lent (now (z .faults)) m) d (c .before .before .before .before .before .program-page .ensures (now (z .buffer))) (c .before .before .if1 .left) (c .remember .ensures)
 
 pub burn-spec : {M : Type 1} → statement M
 burn-spec =

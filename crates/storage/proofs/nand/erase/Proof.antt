@@ -17,19 +17,31 @@ same-length : tie.Need-same-length
 same-length c = search needs
 
 returns : tie.Need-returns
-returns c = erased-unflushed (lent (now (c .before .before .before .before .before .before .before .before .before .before .args .faults)) (now (c .before .before .before .before .before .before .before .before .before .before .args .marks))) (c .before .before .before .before .before .before .before .before .before .before .args .start) (c .before .before .before .before .before .before .before .before .before .before .args .size) (dev (c .before .before .before .before .before .before .before .before .before .before .args .s) (now (c .before .before .before .before .before .before .before .before .before .before .args .chip)) (now (c .before .before .before .before .before .before .before .before .before .before .args .buffer))) (c .before .before .before .before .flush-page .ensures) (not-true _ (c .if1 .taken))
+returns c =
+    let z = c .before .before .before .before .before .before .before .before .before .before .args in
+    let l = lent (now (z .faults)) (now (z .marks)) in
+    let d = dev (z .s) (now (z .chip)) (now (z .buffer)) in
+    erased-unflushed l (z .start) (z .size) d (c .before .before .before .before .flush-page .ensures) (not-true _ (c .if1 .taken))
 
 remember-requires : tie.Need-remember-requires
 remember-requires c κs = search needs
 
 erase-range-requires : tie.Need-erase-range-requires
-erase-range-requires c κs = shaped-as (ap (λ (s : Store). s .shape) (c .before .remember .ensures) ∙ flushes-shape (lent (now (c .before .before .before .before .before .before .before .before .before .before .before .before .before .args .faults)) (now (c .before .before .before .before .before .before .before .before .before .before .before .before .before .args .marks))) (dev (c .before .before .before .before .before .before .before .before .before .before .before .before .before .args .s) (now (c .before .before .before .before .before .before .before .before .before .before .before .before .before .args .chip)) (now (c .before .before .before .before .before .before .before .before .before .before .before .before .before .args .buffer))) (c .before .before .before .before .before .before .before .flush-page .ensures)) (c .before .before .before .before .before .before .before .before .before .before .before .before .before .pre .shaped)
+erase-range-requires c κs =
+    let z = c .before .before .before .before .before .before .before .before .before .before .before .before .before .args in
+    let l = lent (now (z .faults)) (now (z .marks)) in
+    let d = dev (z .s) (now (z .chip)) (now (z .buffer)) in
+    shaped-as (ap (λ (s : Store). s .shape) (c .before .remember .ensures) ∙ flushes-shape l d (c .before .before .before .before .before .before .before .flush-page .ensures)) (c .before .before .before .before .before .before .before .before .before .before .before .before .before .pre .shaped)
 
 same-length-2 : tie.Need-same-length-2
 same-length-2 c = search needs
 
 returns-2 : tie.Need-returns-2
-returns-2 c = erased-done (lent (now (c .before .before .before .before .before .before .before .before .before .before .before .before .before .before .before .before .args .faults)) (now (c .before .before .before .before .before .before .before .before .before .before .before .before .before .before .before .before .args .marks))) (c .before .before .before .before .before .before .before .before .before .before .before .before .before .before .before .before .args .start) (c .before .before .before .before .before .before .before .before .before .before .before .before .before .before .before .before .args .size) (dev (c .before .before .before .before .before .before .before .before .before .before .before .before .before .before .before .before .args .s) (now (c .before .before .before .before .before .before .before .before .before .before .before .before .before .before .before .before .args .chip)) (now (c .before .before .before .before .before .before .before .before .before .before .before .before .before .before .before .before .args .buffer))) (c .before .before .before .before .before .before .before .before .before .before .flush-page .ensures) (not-false _ (c .before .before .before .before .before .before .if1 .left)) (c .before .before .before .before .remember .ensures) (c .before .before .erase-range .ensures (now (c .before .before .before .before .before .before .before .before .before .before .before .before .before .before .before .before .args .buffer)))
+returns-2 c =
+    let z = c .before .before .before .before .before .before .before .before .before .before .before .before .before .before .before .before .args in
+    let l = lent (now (z .faults)) (now (z .marks)) in
+    let d = dev (z .s) (now (z .chip)) (now (z .buffer)) in
+    erased-done l (z .start) (z .size) d (c .before .before .before .before .before .before .before .before .before .before .flush-page .ensures) (not-false _ (c .before .before .before .before .before .before .if1 .left)) (c .before .before .before .before .remember .ensures) (c .before .before .erase-range .ensures (now (z .buffer)))
 
 pub erase-spec : {M : Type 1} → statement M
 erase-spec =

@@ -37,7 +37,11 @@ same-length : tie.Need-same-length Inv-loop μ-loop
 same-length c = search needs
 
 returns : tie.Need-returns Inv-loop μ-loop
-returns c b = erase-failed (lent (now (c .before .before .before .before .before .before .before .before .before .before .before .before .args .faults)) (now (c .before .before .before .before .before .before .before .before .before .before .before .before .args .marks))) (c .before .before .before .before .before .before .before .loop .k) (blockSize (c .before .before .before .before .before .before .before .before .before .before .before .before .args .s)) (c .before .before .before .before .before .before .before .loop .at) (c .before .before .before .before .before .before .before .before .before .before .before .before .args .end) (dev (c .before .before .before .before .before .before .before .loop .store) (c .before .before .before .before .before .before .before .loop .chip) b) (block-some (c .before .before .before .before .before .before .before .before .before .before .before .before .pre .0)) (c .before .before .before .before .before .before .loop-test .taken) (c .before .before .before .before .erase-checked .ensures b) (not-true _ (c .if1 .taken)) ∙ c .before .before .before .before .before .before .before .loop .inv .3 b
+returns c b =
+    let z = c .before .before .before .before .before .before .before .before .before .before .before .before .args in
+    let w = c .before .before .before .before .before .before .before .loop in
+    let l = lent (now (z .faults)) (now (z .marks)) in
+    erase-failed l (w .k) (blockSize (z .s)) (w .at) (z .end) (dev (w .store) (w .chip) b) (block-some (c .before .before .before .before .before .before .before .before .before .before .before .before .pre .0)) (c .before .before .before .before .before .before .loop-test .taken) (c .before .before .before .before .erase-checked .ensures b) (not-true _ (c .if1 .taken)) ∙ w .inv .3 b
 
 add-k : tie.Need-add-k Inv-loop μ-loop
 add-k c = omega arith
@@ -49,18 +53,26 @@ loop-less : tie.Need-loop-less Inv-loop μ-loop
 loop-less c = omega (arith, block-some (c .before .before .before .before .before .before .before .before .before .before .before .before .before .pre .0))
 
 loop-again : tie.Need-loop-again Inv-loop μ-loop
-loop-again c = (
-  omega arith,
-  omega (arith, block-some (c .before .before .before .before .before .before .before .before .before .before .before .before .before .pre .0)),
-  checked-shape (lent (now (c .before .before .before .before .before .before .before .before .before .before .before .before .before .args .faults)) (now (c .before .before .before .before .before .before .before .before .before .before .before .before .before .args .marks))) (dev (c .before .before .before .before .before .before .before .before .loop .store) (c .before .before .before .before .before .before .before .before .loop .chip) (c .before .before .before .before .before .before .before .before .loop .chip)) (c .before .before .before .before .before .before .before .before .loop .k) (c .before .before .before .before .before .erase-checked .ensures (c .before .before .before .before .before .before .before .before .loop .chip)) ∙ c .before .before .before .before .before .before .before .before .loop .inv .2,
-  λ b. erase-went (lent (now (c .before .before .before .before .before .before .before .before .before .before .before .before .before .args .faults)) (now (c .before .before .before .before .before .before .before .before .before .before .before .before .before .args .marks))) (c .before .before .before .before .before .before .before .before .loop .k) (blockSize (c .before .before .before .before .before .before .before .before .before .before .before .before .before .args .s)) (c .before .before .before .before .before .before .before .before .loop .at) (c .before .before .before .before .before .before .before .before .before .before .before .before .before .args .end) (dev (c .before .before .before .before .before .before .before .before .loop .store) (c .before .before .before .before .before .before .before .before .loop .chip) b) (block-some (c .before .before .before .before .before .before .before .before .before .before .before .before .before .pre .0)) (c .before .before .before .before .before .before .before .loop-test .taken) (c .before .before .before .before .before .erase-checked .ensures b) (not-false _ (c .before .if1 .left)) ∙ c .before .before .before .before .before .before .before .before .loop .inv .3 b,
-)
+loop-again c =
+    let z = c .before .before .before .before .before .before .before .before .before .before .before .before .before .args in
+    let w = c .before .before .before .before .before .before .before .before .loop in
+    let r = c .before .before .before .before .before .before .before .before .before .before .before .before .before .pre in
+    let l = lent (now (z .faults)) (now (z .marks)) in (
+      omega arith,
+      omega (arith, block-some (r .0)),
+      checked-shape l (dev (w .store) (w .chip) (w .chip)) (w .k) (c .before .before .before .before .before .erase-checked .ensures (w .chip)) ∙ w .inv .2,
+      λ b. erase-went l (w .k) (blockSize (z .s)) (w .at) (z .end) (dev (w .store) (w .chip) b) (block-some (r .0)) (c .before .before .before .before .before .before .before .loop-test .taken) (c .before .before .before .before .before .erase-checked .ensures b) (not-false _ (c .before .if1 .left)) ∙ w .inv .3 b,
+    )
 
 same-length-2 : tie.Need-same-length-2 Inv-loop μ-loop
 same-length-2 c = search needs
 
 returns-2 : tie.Need-returns-2 Inv-loop μ-loop
-returns-2 c b = erase-none (lent (now (c .before .before .before .before .before .before .args .faults)) (now (c .before .before .before .before .before .before .args .marks))) (c .before .loop .k) (blockSize (c .before .before .before .before .before .before .args .s)) (c .before .loop .at) (c .before .before .before .before .before .before .args .end) (dev (c .before .loop .store) (c .before .loop .chip) b) (c .loop-test .left) ∙ c .before .loop .inv .3 b
+returns-2 c b =
+    let z = c .before .before .before .before .before .before .args in
+    let w = c .before .loop in
+    let l = lent (now (z .faults)) (now (z .marks)) in
+    erase-none l (w .k) (blockSize (z .s)) (w .at) (z .end) (dev (w .store) (w .chip) b) (c .loop-test .left) ∙ w .inv .3 b
 
 pub erase-all-spec : {M : Type 1} → statement M
 erase-all-spec =

@@ -28,7 +28,9 @@ same-length c = search needs
 
 returns : tie.Need-returns
 unfolding eraseBlock
-returns c b = sets-fails (now (c .before .before .before .before .before .before .before .args .faults)) (c .before .before .before .before .before .before .before .args .s) (now (c .before .before .before .before .before .before .before .args .chip)) (c .before .before .before .before .before .before .before .args .k * blockSize (c .before .before .before .before .before .before .before .args .s)) (blanks (blockSize (c .before .before .before .before .before .before .before .args .s))) _ (c .before .before .before .take-call .ensures) (rw length-blanks (sym (c .before .may .ensures) ∙ not-true _ (c .if1 .taken)))
+returns c b =
+    let z = c .before .before .before .before .before .before .before .args in
+    sets-fails (now (z .faults)) (z .s) (now (z .chip)) (z .k * blockSize (z .s)) (blanks (blockSize (z .s))) _ (c .before .before .before .take-call .ensures) (rw length-blanks (sym (c .before .may .ensures) ∙ not-true _ (c .if1 .taken)))
 
 add-end : tie.Need-add-end
 add-end c = search needs
@@ -40,7 +42,9 @@ part-fill-start : tie.Need-part-fill-start
 part-fill-start c = search needs
 
 part-fill-end : tie.Need-part-fill-end
-part-fill-end c = omega (arith, able-fits (now (c .before .before .before .before .before .before .before .args .faults)) (c .before .before .before .before .before .before .before .args .s) (now (c .before .before .before .before .before .before .before .args .chip)) (c .before .before .before .before .before .before .before .args .k * blockSize (c .before .before .before .before .before .before .before .args .s)) (blockSize (c .before .before .before .before .before .before .before .args .s)) (sym (c .before .may .ensures) ∙ not-false _ (c .if1 .left)))
+part-fill-end c =
+    let z = c .before .before .before .before .before .before .before .args in
+    omega (arith, able-fits (now (z .faults)) (z .s) (now (z .chip)) (z .k * blockSize (z .s)) (blockSize (z .s)) (sym (c .before .may .ensures) ∙ not-false _ (c .if1 .left)))
 
 fill-requires : tie.Need-fill-requires
 fill-requires c κs = search needs
@@ -51,9 +55,10 @@ same-length-2 c = search needs
 returns-2 : tie.Need-returns-2
 unfolding eraseBlock
 returns-2 c b =
-    sets-part (now (c .before .before .before .before .before .before .before .before .before .before .before .args .faults)) (c .before .before .before .before .before .before .before .before .before .before .before .args .s) (now (c .before .before .before .before .before .before .before .before .before .before .before .args .chip)) (c .before .before .before .before .before .before .before .before .before .before .before .args .k * blockSize (c .before .before .before .before .before .before .before .before .before .before .before .args .s)) (blanks (blockSize (c .before .before .before .before .before .before .before .before .before .before .before .args .s))) _ (c .before .before .before .before .before .before .before .take-call .ensures)
-    (c .before .before .before .before .before .before .before .before .before .before .before .args .k * blockSize (c .before .before .before .before .before .before .before .before .before .before .before .args .s) + blockSize (c .before .before .before .before .before .before .before .before .before .before .before .args .s)) (rw length-blanks (sym (c .before .before .before .before .before .may .ensures) ∙ not-false _ (c .before .before .before .before .if1 .left))) (rw length-blanks)
-    (c .before .before .fill .ensures ∙ blank-part (c .before .before .before .before .before .before .before .before .before .before .before .args .k * blockSize (c .before .before .before .before .before .before .before .before .before .before .before .args .s)) (c .before .before .before .before .before .before .before .before .before .before .before .args .k * blockSize (c .before .before .before .before .before .before .before .before .before .before .before .args .s) + blockSize (c .before .before .before .before .before .before .before .before .before .before .before .args .s)) (blockSize (c .before .before .before .before .before .before .before .before .before .before .before .args .s)) (now (c .before .before .before .before .before .before .before .before .before .before .before .args .chip)) refl (able-fits (now (c .before .before .before .before .before .before .before .before .before .before .before .args .faults)) (c .before .before .before .before .before .before .before .before .before .before .before .args .s) (now (c .before .before .before .before .before .before .before .before .before .before .before .args .chip)) (c .before .before .before .before .before .before .before .before .before .before .before .args .k * blockSize (c .before .before .before .before .before .before .before .before .before .before .before .args .s)) (blockSize (c .before .before .before .before .before .before .before .before .before .before .before .args .s)) (sym (c .before .before .before .before .before .may .ensures) ∙ not-false _ (c .before .before .before .before .if1 .left))))
+    let z = c .before .before .before .before .before .before .before .before .before .before .before .args in
+    sets-part (now (z .faults)) (z .s) (now (z .chip)) (z .k * blockSize (z .s)) (blanks (blockSize (z .s))) _ (c .before .before .before .before .before .before .before .take-call .ensures)
+    (z .k * blockSize (z .s) + blockSize (z .s)) (rw length-blanks (sym (c .before .before .before .before .before .may .ensures) ∙ not-false _ (c .before .before .before .before .if1 .left))) (rw length-blanks)
+    (c .before .before .fill .ensures ∙ blank-part (z .k * blockSize (z .s)) (z .k * blockSize (z .s) + blockSize (z .s)) (blockSize (z .s)) (now (z .chip)) refl (able-fits (now (z .faults)) (z .s) (now (z .chip)) (z .k * blockSize (z .s)) (blockSize (z .s)) (sym (c .before .before .before .before .before .may .ensures) ∙ not-false _ (c .before .before .before .before .if1 .left))))
 
 pub erase-block-spec : {M : Type 1} → statement M
 erase-block-spec =

@@ -16,16 +16,25 @@ ask-good-requires : tie.Need-ask-good-requires
 ask-good-requires c κs = omega arith
 
 returns-2 : tie.Need-returns-2
-returns-2 c b = checked-bad (lent (now (c .before .before .before .before .before .before .before .before .args .faults)) (now (c .before .before .before .before .before .before .before .before .args .marks))) (c .before .before .before .before .before .before .before .before .args .k) (dev (c .before .before .before .before .before .before .before .before .args .s) (now (c .before .before .before .before .before .before .before .before .args .chip)) b) (c .before .before .before .if1 .left) (c .before .before .ask-good .ensures (now (c .before .before .before .before .before .before .before .before .args .chip)) b) (not-true _ (c .if2 .taken))
+returns-2 c b =
+    let z = c .before .before .before .before .before .before .before .before .args in
+    let l = lent (now (z .faults)) (now (z .marks)) in
+    checked-bad l (z .k) (dev (z .s) (now (z .chip)) b) (c .before .before .before .if1 .left) (c .before .before .ask-good .ensures (now (z .chip)) b) (not-true _ (c .if2 .taken))
 
 erase-block-requires : tie.Need-erase-block-requires
-erase-block-requires c κs = block-fits (shaped-as (asks-shape (lent (now (c .before .before .before .before .before .before .before .before .before .before .args .faults)) (now (c .before .before .before .before .before .before .before .before .before .before .args .marks))) (c .before .before .before .before .before .before .before .before .before .before .args .k) (dev (c .before .before .before .before .before .before .before .before .before .before .args .s) (now (c .before .before .before .before .before .before .before .before .before .before .args .chip)) (now (c .before .before .before .before .before .before .before .before .before .before .args .chip))) (c .before .before .before .before .ask-good .ensures (now (c .before .before .before .before .before .before .before .before .before .before .args .chip)) (now (c .before .before .before .before .before .before .before .before .before .before .args .chip)))) (c .before .before .before .before .before .before .before .before .before .before .pre)) (c .before .before .before .before .before .before .before .before .before .before .args .k) (rw (asks-shape (lent (now (c .before .before .before .before .before .before .before .before .before .before .args .faults)) (now (c .before .before .before .before .before .before .before .before .before .before .args .marks))) (c .before .before .before .before .before .before .before .before .before .before .args .k) (dev (c .before .before .before .before .before .before .before .before .before .before .args .s) (now (c .before .before .before .before .before .before .before .before .before .before .args .chip)) (now (c .before .before .before .before .before .before .before .before .before .before .args .chip))) (c .before .before .before .before .ask-good .ensures (now (c .before .before .before .before .before .before .before .before .before .before .args .chip)) (now (c .before .before .before .before .before .before .before .before .before .before .args .chip)))) (c .before .before .before .before .before .if1 .left))
+erase-block-requires c κs =
+    let z = c .before .before .before .before .before .before .before .before .before .before .args in
+    let l = lent (now (z .faults)) (now (z .marks)) in
+    block-fits (shaped-as (asks-shape l (z .k) (dev (z .s) (now (z .chip)) (now (z .chip))) (c .before .before .before .before .ask-good .ensures (now (z .chip)) (now (z .chip)))) (c .before .before .before .before .before .before .before .before .before .before .pre)) (z .k) (rw (asks-shape l (z .k) (dev (z .s) (now (z .chip)) (now (z .chip))) (c .before .before .before .before .ask-good .ensures (now (z .chip)) (now (z .chip)))) (c .before .before .before .before .before .if1 .left))
 
 same-length : tie.Need-same-length
 same-length c = search needs
 
 returns-3 : tie.Need-returns-3
-returns-3 c b = checked-done (lent (now (c .before .before .before .before .before .before .before .before .before .before .before .before .before .args .faults)) (now (c .before .before .before .before .before .before .before .before .before .before .before .before .before .args .marks))) (c .before .before .before .before .before .before .before .before .before .before .before .before .before .args .k) (dev (c .before .before .before .before .before .before .before .before .before .before .before .before .before .args .s) (now (c .before .before .before .before .before .before .before .before .before .before .before .before .before .args .chip)) b) (c .before .before .before .before .before .before .before .before .if1 .left) (c .before .before .before .before .before .before .before .ask-good .ensures (now (c .before .before .before .before .before .before .before .before .before .before .before .before .before .args .chip)) b) (not-false _ (c .before .before .before .before .before .if2 .left)) (c .before .before .erase-block .ensures b)
+returns-3 c b =
+    let z = c .before .before .before .before .before .before .before .before .before .before .before .before .before .args in
+    let l = lent (now (z .faults)) (now (z .marks)) in
+    checked-done l (z .k) (dev (z .s) (now (z .chip)) b) (c .before .before .before .before .before .before .before .before .if1 .left) (c .before .before .before .before .before .before .before .ask-good .ensures (now (z .chip)) b) (not-false _ (c .before .before .before .before .before .if2 .left)) (c .before .before .erase-block .ensures b)
 
 pub erase-checked-spec : {M : Type 1} → statement M
 erase-checked-spec =

@@ -14,7 +14,10 @@ sat-add-requires : tie.Need-sat-add-requires
 sat-add-requires c κs = search needs
 
 returns : tie.Need-returns
-returns c b = range-past (lent (now (c .before .before .before .before .before .before .args .faults)) (now (c .before .before .before .before .before .before .args .marks))) (c .before .before .before .before .before .before .args .start) (c .before .before .before .before .before .before .args .size) (dev (c .before .before .before .before .before .before .args .s) (now (c .before .before .before .before .before .before .args .chip)) b) (c .before .before .sat-add .result) (c .before .before .sat-add .ensures) (c .if1 .taken)
+returns c b =
+    let z = c .before .before .before .before .before .before .args in
+    let l = lent (now (z .faults)) (now (z .marks)) in
+    range-past l (z .start) (z .size) (dev (z .s) (now (z .chip)) b) (c .before .before .sat-add .result) (c .before .before .sat-add .ensures) (c .if1 .taken)
 
 mul-block : tie.Need-mul-block
 mul-block c = omega (arith, block-most (c .before .before .before .before .before .before .before .pre))
@@ -23,16 +26,24 @@ page-number-requires : tie.Need-page-number-requires
 page-number-requires c κs = block-some (c .before .before .before .before .before .before .before .pre)
 
 mul-first : tie.Need-mul-first
-mul-first c = rw (c .page-number .ensures) (omega (arith, div-mul-le-self (c .before .before .before .before .before .before .before .before .args .start) (c .before .before .before .before .before .before .before .before .args .s .shape .page * c .before .before .before .before .before .before .before .before .args .s .shape .pages)))
+mul-first c =
+    let z = c .before .before .before .before .before .before .before .before .args in
+    rw (c .page-number .ensures) (omega (arith, div-mul-le-self (z .start) (z .s .shape .page * z .s .shape .pages)))
 
 erase-all-requires : tie.Need-erase-all-requires
-erase-all-requires c κs = (c .before .before .before .before .before .before .before .before .before .pre, number-most (c .before .page-number .result) (c .before .before .before .before .before .before .before .before .before .args .s .shape .page * c .before .before .before .before .before .before .before .before .before .args .s .shape .pages) (block-some (c .before .before .before .before .before .before .before .before .before .pre)), omega (arith, c .before .before .before .before .before .before .before .before .before .pre .capacity-most, c .before .before .before .if1 .left))
+erase-all-requires c κs =
+    let z = c .before .before .before .before .before .before .before .before .before .args in
+    let r = c .before .before .before .before .before .before .before .before .before .pre in
+    (r, number-most (c .before .page-number .result) (z .s .shape .page * z .s .shape .pages) (block-some (r)), omega (arith, r .capacity-most, c .before .before .before .if1 .left))
 
 same-length : tie.Need-same-length
 same-length c = search needs
 
 returns-2 : tie.Need-returns-2
-returns-2 c b = range-done (lent (now (c .before .before .before .before .before .before .before .before .before .before .before .before .args .faults)) (now (c .before .before .before .before .before .before .before .before .before .before .before .before .args .marks))) (c .before .before .before .before .before .before .before .before .before .before .before .before .args .start) (c .before .before .before .before .before .before .before .before .before .before .before .before .args .size) (dev (c .before .before .before .before .before .before .before .before .before .before .before .before .args .s) (now (c .before .before .before .before .before .before .before .before .before .before .before .before .args .chip)) b) (c .before .before .before .before .before .before .before .before .sat-add .result) (c .before .before .before .before .before .before .before .before .sat-add .ensures) (c .before .before .before .before .page-number .result) (c .before .before .before .before .page-number .result * (c .before .before .before .before .before .before .before .before .before .before .before .before .args .s .shape .page * c .before .before .before .before .before .before .before .before .before .before .before .before .args .s .shape .pages)) (c .before .before .before .before .before .before .if1 .left) (c .before .before .before .before .page-number .ensures) (rw (c .before .before .before .before .page-number .ensures) (start-is (c .before .before .before .before .before .before .before .before .before .before .before .before .args .s .shape .page * c .before .before .before .before .before .before .before .before .before .before .before .before .args .s .shape .pages) (c .before .before .before .before .before .before .before .before .before .before .before .before .args .start))) (c .before .before .erase-all .ensures b)
+returns-2 c b =
+    let z = c .before .before .before .before .before .before .before .before .before .before .before .before .args in
+    let l = lent (now (z .faults)) (now (z .marks)) in
+    range-done l (z .start) (z .size) (dev (z .s) (now (z .chip)) b) (c .before .before .before .before .before .before .before .before .sat-add .result) (c .before .before .before .before .before .before .before .before .sat-add .ensures) (c .before .before .before .before .page-number .result) (c .before .before .before .before .page-number .result * (z .s .shape .page * z .s .shape .pages)) (c .before .before .before .before .before .before .if1 .left) (c .before .before .before .before .page-number .ensures) (rw (c .before .before .before .before .page-number .ensures) (start-is (z .s .shape .page * z .s .shape .pages) (z .start))) (c .before .before .erase-all .ensures b)
 
 pub erase-range-spec : {M : Type 1} → statement M
 erase-range-spec =

@@ -17,13 +17,21 @@ same-length : tie.Need-same-length
 same-length c = search needs
 
 returns-2 : tie.Need-returns-2
-returns-2 c = flush-not (lent (now (c .before .before .before .before .before .before .before .before .before .before .before .before .args .faults)) (now (c .before .before .before .before .before .before .before .before .before .before .before .before .args .marks))) (dev (c .before .before .before .before .before .before .before .before .before .before .before .before .args .s) (now (c .before .before .before .before .before .before .before .before .before .before .before .before .args .chip)) (now (c .before .before .before .before .before .before .before .before .before .before .before .before .args .buffer))) (not-false _ (c .before .before .before .before .before .before .if1 .left)) (c .before .before .before .before .try-twice .ensures) (not-true _ (c .if2 .taken))
+returns-2 c =
+    let z = c .before .before .before .before .before .before .before .before .before .before .before .before .args in
+    let l = lent (now (z .faults)) (now (z .marks)) in
+    let d = dev (z .s) (now (z .chip)) (now (z .buffer)) in
+    flush-not l d (not-false _ (c .before .before .before .before .before .before .if1 .left)) (c .before .before .before .before .try-twice .ensures) (not-true _ (c .if2 .taken))
 
 same-length-2 : tie.Need-same-length-2
 same-length-2 c = search needs
 
 returns-3 : tie.Need-returns-3
-returns-3 c = flush-done (lent (now (c .before .before .before .before .before .before .before .before .before .before .before .before .before .args .faults)) (now (c .before .before .before .before .before .before .before .before .before .before .before .before .before .args .marks))) (dev (c .before .before .before .before .before .before .before .before .before .before .before .before .before .args .s) (now (c .before .before .before .before .before .before .before .before .before .before .before .before .before .args .chip)) (now (c .before .before .before .before .before .before .before .before .before .before .before .before .before .args .buffer))) (not-false _ (c .before .before .before .before .before .before .before .if1 .left)) (c .before .before .before .before .before .try-twice .ensures) (not-false _ (c .before .if2 .left))
+returns-3 c =
+    let z = c .before .before .before .before .before .before .before .before .before .before .before .before .before .args in
+    let l = lent (now (z .faults)) (now (z .marks)) in
+    let d = dev (z .s) (now (z .chip)) (now (z .buffer)) in
+    flush-done l d (not-false _ (c .before .before .before .before .before .before .before .if1 .left)) (c .before .before .before .before .before .try-twice .ensures) (not-false _ (c .before .if2 .left))
 
 pub flush-page-spec : {M : Type 1} → statement M
 flush-page-spec =

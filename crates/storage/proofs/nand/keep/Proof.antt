@@ -35,13 +35,19 @@ loop-less : tie.Need-loop-less Inv-loop μ-loop
 loop-less c = search needs
 
 loop-again : tie.Need-loop-again Inv-loop μ-loop
-loop-again c = (omega arith, simp length-set (omega arith), rw (c .before .before .before .loop .inv .2) (kept-more (c .before .before .before .loop .i) (now (c .before .before .before .before .args .to)) (now (c .before .before .before .before .args .from)) (omega arith) (omega arith)))
+loop-again c =
+    let z = c .before .before .before .before .args in
+    let w = c .before .before .before .loop in
+    (omega arith, simp length-set (omega arith), rw (w .inv .2) (kept-more (w .i) (now (z .to)) (now (z .from)) (omega arith) (omega arith)))
 
 same-length : tie.Need-same-length Inv-loop μ-loop
 same-length c = search needs
 
 returns : tie.Need-returns Inv-loop μ-loop
-returns c = c .before .loop .inv .2 ∙ kept-whole (c .before .loop .i) (now (c .before .before .args .to)) (now (c .before .before .args .from)) (omega arith)
+returns c =
+    let z = c .before .before .args in
+    let w = c .before .loop in
+    w .inv .2 ∙ kept-whole (w .i) (now (z .to)) (now (z .from)) (omega arith)
 
 pub keep-spec : {M : Type 1} → statement M
 keep-spec =

@@ -16,7 +16,11 @@ is-held-requires : tie.Need-is-held-requires
 is-held-requires c κs = search needs
 
 returns : tie.Need-returns
-returns c p a e = load-held (lent (now (c .before .before .before .before .before .before .args .faults)) (now (c .before .before .before .before .before .before .args .marks))) p a (dev (c .before .before .before .before .before .before .args .s) (now (c .before .before .before .before .before .before .args .chip)) (now (c .before .before .before .before .before .before .args .buffer))) (rw (← e) (sym (c .before .is-held .ensures) ∙ c .if1 .taken))
+returns c p a e =
+    let z = c .before .before .before .before .before .before .args in
+    let l = lent (now (z .faults)) (now (z .marks)) in
+    let d = dev (z .s) (now (z .chip)) (now (z .buffer)) in
+    load-held l p a d (rw (← e) (sym (c .before .is-held .ensures) ∙ c .if1 .taken))
 
 flush-page-requires : tie.Need-flush-page-requires
 flush-page-requires c κs = search needs
@@ -28,13 +32,19 @@ same-length-2 : tie.Need-same-length-2
 same-length-2 c = search needs
 
 returns-2 : tie.Need-returns-2
-returns-2 c p a e = load-unflushed (lent (now (c .before .before .before .before .before .before .before .before .before .before .before .before .before .args .faults)) (now (c .before .before .before .before .before .before .before .before .before .before .before .before .before .args .marks))) p a (dev (c .before .before .before .before .before .before .before .before .before .before .before .before .before .args .s) (now (c .before .before .before .before .before .before .before .before .before .before .before .before .before .args .chip)) (now (c .before .before .before .before .before .before .before .before .before .before .before .before .before .args .buffer))) (c .before .before .before .before .before .before .before .before .before .before .before .before .before .args .start) e (sym (c .before .before .before .before .before .before .before .before .is-held .ensures) ∙ c .before .before .before .before .before .before .before .if1 .left) (c .before .before .before .before .flush-page .ensures) (not-true _ (c .if2 .taken))
+returns-2 c p a e =
+    let z = c .before .before .before .before .before .before .before .before .before .before .before .before .before .args in
+    let l = lent (now (z .faults)) (now (z .marks)) in
+    let d = dev (z .s) (now (z .chip)) (now (z .buffer)) in
+    load-unflushed l p a d (z .start) e (sym (c .before .before .before .before .before .before .before .before .is-held .ensures) ∙ c .before .before .before .before .before .before .before .if1 .left) (c .before .before .before .before .flush-page .ensures) (not-true _ (c .if2 .taken))
 
 slice-relend-prefix-fill : tie.Need-slice-relend-prefix-fill
 slice-relend-prefix-fill c = page-fits (c .before .before .before .before .before .before .before .before .before .before .before .before .before .pre)
 
 slice-aggregate-fill : tie.Need-slice-aggregate-fill
-slice-aggregate-fill c = sym (length-take-le (c .before .before .before .before .before .before .before .before .before .before .before .before .before .before .args .s .shape .page) (now (c .before .before .before .before .before .before .before .before .before .before .before .before .before .before .args .buffer)) (page-fits (c .before .before .before .before .before .before .before .before .before .before .before .before .before .before .pre)))
+slice-aggregate-fill c =
+    let z = c .before .before .before .before .before .before .before .before .before .before .before .before .before .before .args in
+    sym (length-take-le (z .s .shape .page) (now (z .buffer)) (page-fits (c .before .before .before .before .before .before .before .before .before .before .before .before .before .before .pre)))
 
 fill-requires : tie.Need-fill-requires
 fill-requires c κs = search needs
@@ -46,7 +56,11 @@ same-length-4 : tie.Need-same-length-4
 same-length-4 c = search needs
 
 returns-3 : tie.Need-returns-3
-returns-3 c p a e = load-done (lent (now (c .before .before .before .before .before .before .before .before .before .before .before .before .before .before .before .before .before .before .args .faults)) (now (c .before .before .before .before .before .before .before .before .before .before .before .before .before .before .before .before .before .before .args .marks))) p a (dev (c .before .before .before .before .before .before .before .before .before .before .before .before .before .before .before .before .before .before .args .s) (now (c .before .before .before .before .before .before .before .before .before .before .before .before .before .before .before .before .before .before .args .chip)) (now (c .before .before .before .before .before .before .before .before .before .before .before .before .before .before .before .before .before .before .args .buffer))) (c .before .before .before .before .before .before .before .before .before .before .before .before .before .before .before .before .before .before .args .start) e (sym (c .before .before .before .before .before .before .before .before .before .before .before .before .before .is-held .ensures) ∙ c .before .before .before .before .before .before .before .before .before .before .before .before .if1 .left) (c .before .before .before .before .before .before .before .before .before .flush-page .ensures) (c .before .before .before .before .before .before .before .before .before .before .before .before .before .before .before .before .before .before .args .s .shape .page) (not-false _ (c .before .before .before .before .before .if2 .left)) (ap (λ (h : Shape). h .page) (sym (flushes-shape (lent (now (c .before .before .before .before .before .before .before .before .before .before .before .before .before .before .before .before .before .before .args .faults)) (now (c .before .before .before .before .before .before .before .before .before .before .before .before .before .before .before .before .before .before .args .marks))) (dev (c .before .before .before .before .before .before .before .before .before .before .before .before .before .before .before .before .before .before .args .s) (now (c .before .before .before .before .before .before .before .before .before .before .before .before .before .before .before .before .before .before .args .chip)) (now (c .before .before .before .before .before .before .before .before .before .before .before .before .before .before .before .before .before .before .args .buffer))) (c .before .before .before .before .before .before .before .before .before .flush-page .ensures)))) (c .before .before .before .fill .ensures ∙ begun (c .before .before .before .before .before .before .before .before .before .before .before .before .before .before .before .before .before .before .args .s .shape .page) (now (c .before .before .before .before .before .before .before .before .before .before .before .before .before .before .before .before .before .before .args .buffer)) (page-fits (c .before .before .before .before .before .before .before .before .before .before .before .before .before .before .before .before .before .before .pre)))
+returns-3 c p a e =
+    let z = c .before .before .before .before .before .before .before .before .before .before .before .before .before .before .before .before .before .before .args in
+    let l = lent (now (z .faults)) (now (z .marks)) in
+    let d = dev (z .s) (now (z .chip)) (now (z .buffer)) in
+    load-done l p a d (z .start) e (sym (c .before .before .before .before .before .before .before .before .before .before .before .before .before .is-held .ensures) ∙ c .before .before .before .before .before .before .before .before .before .before .before .before .if1 .left) (c .before .before .before .before .before .before .before .before .before .flush-page .ensures) (z .s .shape .page) (not-false _ (c .before .before .before .before .before .if2 .left)) (ap (λ (h : Shape). h .page) (sym (flushes-shape l d (c .before .before .before .before .before .before .before .before .before .flush-page .ensures)))) (c .before .before .before .fill .ensures ∙ begun (z .s .shape .page) (now (z .buffer)) (page-fits (c .before .before .before .before .before .before .before .before .before .before .before .before .before .before .before .before .before .before .pre)))
 
 pub load-spec : {M : Type 1} → statement M
 load-spec =

@@ -24,7 +24,10 @@ same-length : tie.Need-same-length
 same-length c = search needs
 
 returns-2 : tie.Need-returns-2
-returns-2 c b = ready-not (lent (now (c .before .before .before .before .before .before .before .before .before .before .before .before .before .args .faults)) (now (c .before .before .before .before .before .before .before .before .before .before .before .before .before .args .marks))) (c .before .before .before .before .before .before .before .before .before .before .before .before .before .args .k) (dev (c .before .before .before .before .before .before .before .before .before .before .before .before .before .args .s) (now (c .before .before .before .before .before .before .before .before .before .before .before .before .before .args .chip)) b) (sym (c .before .before .before .before .before .before .before .before .before .is-erased .ensures) ∙ c .before .before .before .before .before .before .before .before .if1 .left) (c .before .before .before .before .before .before .erase-checked .ensures b) (not-true _ (c .before .if2 .taken)) (c .remember .ensures)
+returns-2 c b =
+    let z = c .before .before .before .before .before .before .before .before .before .before .before .before .before .args in
+    let l = lent (now (z .faults)) (now (z .marks)) in
+    ready-not l (z .k) (dev (z .s) (now (z .chip)) b) (sym (c .before .before .before .before .before .before .before .before .before .is-erased .ensures) ∙ c .before .before .before .before .before .before .before .before .if1 .left) (c .before .before .before .before .before .before .erase-checked .ensures b) (not-true _ (c .before .if2 .taken)) (c .remember .ensures)
 
 remember-requires-2 : tie.Need-remember-requires-2
 remember-requires-2 c κs = search needs
@@ -33,7 +36,10 @@ same-length-2 : tie.Need-same-length-2
 same-length-2 c = search needs
 
 returns-3 : tie.Need-returns-3
-returns-3 c b = ready-now (lent (now (c .before .before .before .before .before .before .before .before .before .before .before .before .before .args .faults)) (now (c .before .before .before .before .before .before .before .before .before .before .before .before .before .args .marks))) (c .before .before .before .before .before .before .before .before .before .before .before .before .before .args .k) (dev (c .before .before .before .before .before .before .before .before .before .before .before .before .before .args .s) (now (c .before .before .before .before .before .before .before .before .before .before .before .before .before .args .chip)) b) (sym (c .before .before .before .before .before .before .before .before .before .is-erased .ensures) ∙ c .before .before .before .before .before .before .before .before .if1 .left) (c .before .before .before .before .before .before .erase-checked .ensures b) (not-false _ (c .before .if2 .left)) (c .remember2 .ensures)
+returns-3 c b =
+    let z = c .before .before .before .before .before .before .before .before .before .before .before .before .before .args in
+    let l = lent (now (z .faults)) (now (z .marks)) in
+    ready-now l (z .k) (dev (z .s) (now (z .chip)) b) (sym (c .before .before .before .before .before .before .before .before .before .is-erased .ensures) ∙ c .before .before .before .before .before .before .before .before .if1 .left) (c .before .before .before .before .before .before .erase-checked .ensures b) (not-false _ (c .before .if2 .left)) (c .remember2 .ensures)
 
 pub make-ready-spec : {M : Type 1} → statement M
 make-ready-spec =

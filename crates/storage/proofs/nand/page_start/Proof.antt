@@ -10,10 +10,14 @@ page-number-requires : tie.Need-page-number-requires
 page-number-requires c κs = search needs
 
 mul-result : tie.Need-mul-result
-mul-result c = rw (c .page-number .ensures) (omega (arith, div-mul-le-self (c .before .args .at) (c .before .args .page)))
+mul-result c =
+    let z = c .before .args in
+    rw (c .page-number .ensures) (omega (arith, div-mul-le-self (z .at) (z .page)))
 
 returns : tie.Need-returns
-returns c = rw (c .page-number .ensures) (start-is (c .before .args .page) (c .before .args .at))
+returns c =
+    let z = c .before .args in
+    rw (c .page-number .ensures) (start-is (z .page) (z .at))
 
 pub page-start-spec : {M : Type 1} → statement M
 page-start-spec = tie.close (tie.spec page-number-requires mul-result returns)

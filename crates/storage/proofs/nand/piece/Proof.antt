@@ -24,7 +24,11 @@ same-length-2 : tie.Need-same-length-2
 same-length-2 c = search needs
 
 returns : tie.Need-returns
-returns c = piece-unloaded (lent (now (c .before .before .before .before .before .before .before .before .before .before .before .before .before .before .before .before .args .faults)) (now (c .before .before .before .before .before .before .before .before .before .before .before .before .before .before .before .before .args .marks))) (c .before .before .before .before .before .before .before .before .before .before .before .before .before .before .before .before .args .page) (c .before .before .before .before .before .before .before .before .before .before .before .before .before .before .before .before .args .addr) (dev (c .before .before .before .before .before .before .before .before .before .before .before .before .before .before .before .before .args .s) (now (c .before .before .before .before .before .before .before .before .before .before .before .before .before .before .before .before .args .chip)) (now (c .before .before .before .before .before .before .before .before .before .before .before .before .before .before .before .before .args .buffer))) (c .before .before .before .before .before .before .before .load .ensures (c .before .before .before .before .before .before .before .before .before .before .before .before .before .before .before .before .args .page) (c .before .before .before .before .before .before .before .before .before .before .before .before .before .before .before .before .args .addr) (c .before .before .before .before .before .before .before .before .before .before .page-start .ensures)) (now (c .before .before .before .before .before .before .before .before .before .before .before .before .before .before .before .before .args .part)) (c .before .before .before .before .before .before .before .before .before .before .before .before .before .before .before .before .pre .2) (not-true _ (c .if1 .taken))
+returns c =
+    let z = c .before .before .before .before .before .before .before .before .before .before .before .before .before .before .before .before .args in
+    let l = lent (now (z .faults)) (now (z .marks)) in
+    let d = dev (z .s) (now (z .chip)) (now (z .buffer)) in
+    piece-unloaded l (z .page) (z .addr) d (c .before .before .before .before .before .before .before .load .ensures (z .page) (z .addr) (c .before .before .before .before .before .before .before .before .before .before .page-start .ensures)) (now (z .part)) (c .before .before .before .before .before .before .before .before .before .before .before .before .before .before .before .before .pre .2) (not-true _ (c .if1 .taken))
 
 sub-i : tie.Need-sub-i
 sub-i c = omega arith
@@ -43,9 +47,13 @@ same-length-4 c = search needs
 
 returns-2 : tie.Need-returns-2
 returns-2 c =
-    piece-laid (lent (now (c .before .before .before .before .before .before .before .before .before .before .before .before .before .before .before .before .before .before .before .before .args .faults)) (now (c .before .before .before .before .before .before .before .before .before .before .before .before .before .before .before .before .before .before .before .before .args .marks))) (c .before .before .before .before .before .before .before .before .before .before .before .before .before .before .before .before .before .before .before .before .args .page) (c .before .before .before .before .before .before .before .before .before .before .before .before .before .before .before .before .before .before .before .before .args .addr) (dev (c .before .before .before .before .before .before .before .before .before .before .before .before .before .before .before .before .before .before .before .before .args .s) (now (c .before .before .before .before .before .before .before .before .before .before .before .before .before .before .before .before .before .before .before .before .args .chip)) (now (c .before .before .before .before .before .before .before .before .before .before .before .before .before .before .before .before .before .before .before .before .args .buffer))) (c .before .before .before .before .before .before .before .before .before .before .before .load .ensures (c .before .before .before .before .before .before .before .before .before .before .before .before .before .before .before .before .before .before .before .before .args .page) (c .before .before .before .before .before .before .before .before .before .before .before .before .before .before .before .before .before .before .before .before .args .addr) (c .before .before .before .before .before .before .before .before .before .before .before .before .before .before .page-start .ensures)) (now (c .before .before .before .before .before .before .before .before .before .before .before .before .before .before .before .before .before .before .before .before .args .part)) (c .before .before .before .before .before .before .before .before .before .before .before .before .before .before .before .before .before .before .before .before .pre .2) (not-false _ (c .before .before .before .before .if1 .left)) (c .before .before .before .before .before .before .before .before .before .before .before .before .before .before .before .before .before .before .before .before .pre .3)
-    (omega (arith, c .before .before .before .before .before .before .before .before .before .before .before .load, c .before .before .before .before .before .before .before .before .before .before .before .before .before .before .before .before .before .before .before .before .pre .1, c .before .before .before .before .before .before .before .before .before .before .before .before .before .before .before .before .before .before .before .before .pre .0 .shaped .page-most, c .before .before .before .before .before .before .before .before .before .before .before .before .before .before .before .before .before .before .before .before .pre .0 .room))
-    (let k : c .before .before .before .before .before .before .before .before .before .before .before .before .before .before .before .before .before .before .before .before .args .addr - c .before .before .before .before .before .before .before .before .before .before .before .before .before .before .page-start .result ≡ c .before .before .before .before .before .before .before .before .before .before .before .before .before .before .before .before .before .before .before .before .args .addr % c .before .before .before .before .before .before .before .before .before .before .before .before .before .before .before .before .before .before .before .before .args .page = omega (arith, c .before .before .before .before .before .before .before .before .before .before .before .before .before .before .page-start .ensures, mod-le (c .before .before .before .before .before .before .before .before .before .before .before .before .before .before .before .before .before .before .before .before .args .addr) (c .before .before .before .before .before .before .before .before .before .before .before .before .before .before .before .before .before .before .before .before .args .page)) in rw (← k) (c .before .before .put .ensures))
+    let z = c .before .before .before .before .before .before .before .before .before .before .before .before .before .before .before .before .before .before .before .before .args in
+    let r = c .before .before .before .before .before .before .before .before .before .before .before .before .before .before .before .before .before .before .before .before .pre in
+    let l = lent (now (z .faults)) (now (z .marks)) in
+    let d = dev (z .s) (now (z .chip)) (now (z .buffer)) in
+    piece-laid l (z .page) (z .addr) d (c .before .before .before .before .before .before .before .before .before .before .before .load .ensures (z .page) (z .addr) (c .before .before .before .before .before .before .before .before .before .before .before .before .before .before .page-start .ensures)) (now (z .part)) (r .2) (not-false _ (c .before .before .before .before .if1 .left)) (r .3)
+    (omega (arith, c .before .before .before .before .before .before .before .before .before .before .before .load, r .1, r .0 .shaped .page-most, r .0 .room))
+    (let k : z .addr - c .before .before .before .before .before .before .before .before .before .before .before .before .before .before .page-start .result ≡ z .addr % z .page = omega (arith, c .before .before .before .before .before .before .before .before .before .before .before .before .before .before .page-start .ensures, mod-le (z .addr) (z .page)) in rw (← k) (c .before .before .put .ensures))
 
 pub piece-spec : {M : Type 1} → statement M
 piece-spec =

@@ -12,13 +12,17 @@ sub-in-page : tie.Need-sub-in-page
 sub-in-page c = omega arith
 
 sub-least : tie.Need-sub-least
-sub-least c = omega (arith, mod-lt (c .before .args .addr) (c .before .pre), mod-le (c .before .args .addr) (c .before .args .page))
+sub-least c =
+    let z = c .before .args in
+    omega (arith, mod-lt (z .addr) (c .before .pre), mod-le (z .addr) (z .page))
 
 least-requires : tie.Need-least-requires
 least-requires c κs = search needs
 
 returns : tie.Need-returns
-returns c = omega (arith, mod-le (c .before .before .args .addr) (c .before .before .args .page))
+returns c =
+    let z = c .before .before .args in
+    omega (arith, mod-le (z .addr) (z .page))
 
 pub piece-len-spec : {M : Type 1} → statement M
 piece-len-spec =

@@ -21,10 +21,14 @@ same-length : tie.Need-same-length
 same-length c = search needs
 
 returns : tie.Need-returns
-returns c b = page-fails (now (c .before .before .before .before .before .before .before .args .faults)) (c .before .before .before .before .before .before .before .args .s) (now (c .before .before .before .before .before .before .before .args .chip)) (c .before .before .before .before .before .before .before .args .at) (now (c .before .before .before .before .before .before .before .args .from)) _ (c .before .before .before .take-call .ensures) (sym (c .before .may .ensures) ∙ not-true _ (c .if1 .taken))
+returns c b =
+    let z = c .before .before .before .before .before .before .before .args in
+    page-fails (now (z .faults)) (z .s) (now (z .chip)) (z .at) (now (z .from)) _ (c .before .before .before .take-call .ensures) (sym (c .before .may .ensures) ∙ not-true _ (c .if1 .taken))
 
 add-end : tie.Need-add-end
-add-end c = omega (arith, able-fits (now (c .before .before .before .before .before .before .before .args .faults)) (c .before .before .before .before .before .before .before .args .s) (now (c .before .before .before .before .before .before .before .args .chip)) (c .before .before .before .before .before .before .before .args .at) (length (now (c .before .before .before .before .before .before .before .args .from))) (sym (c .before .may .ensures) ∙ not-false _ (c .if1 .left)))
+add-end c =
+    let z = c .before .before .before .before .before .before .before .args in
+    omega (arith, able-fits (now (z .faults)) (z .s) (now (z .chip)) (z .at) (length (now (z .from))) (sym (c .before .may .ensures) ∙ not-false _ (c .if1 .left)))
 
 sub-program : tie.Need-sub-program
 sub-program c = search needs
@@ -33,18 +37,23 @@ part-program-start : tie.Need-part-program-start
 part-program-start c = search needs
 
 part-program-end : tie.Need-part-program-end
-part-program-end c = omega (arith, able-fits (now (c .before .before .before .before .before .before .before .args .faults)) (c .before .before .before .before .before .before .before .args .s) (now (c .before .before .before .before .before .before .before .args .chip)) (c .before .before .before .before .before .before .before .args .at) (length (now (c .before .before .before .before .before .before .before .args .from))) (sym (c .before .may .ensures) ∙ not-false _ (c .if1 .left)))
+part-program-end c =
+    let z = c .before .before .before .before .before .before .before .args in
+    omega (arith, able-fits (now (z .faults)) (z .s) (now (z .chip)) (z .at) (length (now (z .from))) (sym (c .before .may .ensures) ∙ not-false _ (c .if1 .left)))
 
 program-requires : tie.Need-program-requires
-program-requires c κs = sym (part-length (c .before .before .before .before .before .before .before .before .args .at) (c .before .before .before .before .before .before .before .before .args .at + length (now (c .before .before .before .before .before .before .before .before .args .from))) (length (now (c .before .before .before .before .before .before .before .before .args .from))) (now (c .before .before .before .before .before .before .before .before .args .chip)) refl (able-fits (now (c .before .before .before .before .before .before .before .before .args .faults)) (c .before .before .before .before .before .before .before .before .args .s) (now (c .before .before .before .before .before .before .before .before .args .chip)) (c .before .before .before .before .before .before .before .before .args .at) (length (now (c .before .before .before .before .before .before .before .before .args .from))) (sym (c .before .before .may .ensures) ∙ not-false _ (c .before .if1 .left))))
+program-requires c κs =
+    let z = c .before .before .before .before .before .before .before .before .args in
+    sym (part-length (z .at) (z .at + length (now (z .from))) (length (now (z .from))) (now (z .chip)) refl (able-fits (now (z .faults)) (z .s) (now (z .chip)) (z .at) (length (now (z .from))) (sym (c .before .before .may .ensures) ∙ not-false _ (c .before .if1 .left))))
 
 same-length-2 : tie.Need-same-length-2
 same-length-2 c = search needs
 
 returns-2 : tie.Need-returns-2
 returns-2 c b =
-    page-part (now (c .before .before .before .before .before .before .before .before .before .before .before .args .faults)) (c .before .before .before .before .before .before .before .before .before .before .before .args .s) (now (c .before .before .before .before .before .before .before .before .before .before .before .args .chip)) (c .before .before .before .before .before .before .before .before .before .before .before .args .at) (now (c .before .before .before .before .before .before .before .before .before .before .before .args .from)) _ (c .before .before .before .before .before .before .before .take-call .ensures)
-    (c .before .before .before .before .before .before .before .before .before .before .before .args .at + length (now (c .before .before .before .before .before .before .before .before .before .before .before .args .from))) (sym (c .before .before .before .before .before .may .ensures) ∙ not-false _ (c .before .before .before .before .if1 .left)) (able-fits (now (c .before .before .before .before .before .before .before .before .before .before .before .args .faults)) (c .before .before .before .before .before .before .before .before .before .before .before .args .s) (now (c .before .before .before .before .before .before .before .before .before .before .before .args .chip)) (c .before .before .before .before .before .before .before .before .before .before .before .args .at) (length (now (c .before .before .before .before .before .before .before .before .before .before .before .args .from))) (sym (c .before .before .before .before .before .may .ensures) ∙ not-false _ (c .before .before .before .before .if1 .left))) refl (c .before .before .program .ensures .0) (c .before .before .program .ensures .1)
+    let z = c .before .before .before .before .before .before .before .before .before .before .before .args in
+    page-part (now (z .faults)) (z .s) (now (z .chip)) (z .at) (now (z .from)) _ (c .before .before .before .before .before .before .before .take-call .ensures)
+    (z .at + length (now (z .from))) (sym (c .before .before .before .before .before .may .ensures) ∙ not-false _ (c .before .before .before .before .if1 .left)) (able-fits (now (z .faults)) (z .s) (now (z .chip)) (z .at) (length (now (z .from))) (sym (c .before .before .before .before .before .may .ensures) ∙ not-false _ (c .before .before .before .before .if1 .left))) refl (c .before .before .program .ensures .0) (c .before .before .program .ensures .1)
 
 pub program-page-spec : {M : Type 1} → statement M
 program-page-spec =

@@ -17,7 +17,11 @@ same-length : tie.Need-same-length
 same-length c = search needs
 
 returns : tie.Need-returns
-returns c = read-unflushed (lent (now (c .before .before .before .before .before .before .before .before .before .before .before .before .args .faults)) (now (c .before .before .before .before .before .before .before .before .before .before .before .before .args .marks))) (c .before .before .before .before .before .before .before .before .before .before .before .before .args .offset) (now (c .before .before .before .before .before .before .before .before .before .before .before .before .args .room)) (dev (c .before .before .before .before .before .before .before .before .before .before .before .before .args .s) (now (c .before .before .before .before .before .before .before .before .before .before .before .before .args .chip)) (now (c .before .before .before .before .before .before .before .before .before .before .before .before .args .buffer))) (c .before .before .before .before .before .flush-page .ensures) (not-true _ (c .if1 .taken))
+returns c =
+    let z = c .before .before .before .before .before .before .before .before .before .before .before .before .args in
+    let l = lent (now (z .faults)) (now (z .marks)) in
+    let d = dev (z .s) (now (z .chip)) (now (z .buffer)) in
+    read-unflushed l (z .offset) (now (z .room)) d (c .before .before .before .before .before .flush-page .ensures) (not-true _ (c .if1 .taken))
 
 read-len-requires : tie.Need-read-len-requires
 read-len-requires c κs = search needs
@@ -26,7 +30,11 @@ same-length-2 : tie.Need-same-length-2
 same-length-2 c = search needs
 
 returns-2 : tie.Need-returns-2
-returns-2 c = read-none (lent (now (c .before .before .before .before .before .before .before .before .before .before .before .before .before .before .args .faults)) (now (c .before .before .before .before .before .before .before .before .before .before .before .before .before .before .args .marks))) (c .before .before .before .before .before .before .before .before .before .before .before .before .before .before .args .offset) (now (c .before .before .before .before .before .before .before .before .before .before .before .before .before .before .args .room)) (dev (c .before .before .before .before .before .before .before .before .before .before .before .before .before .before .args .s) (now (c .before .before .before .before .before .before .before .before .before .before .before .before .before .before .args .chip)) (now (c .before .before .before .before .before .before .before .before .before .before .before .before .before .before .args .buffer))) (c .before .before .before .before .before .before .before .flush-page .ensures) (not-false _ (c .before .before .if1 .left)) _ (c .before .read-len .ensures) (c .if2 .taken)
+returns-2 c =
+    let z = c .before .before .before .before .before .before .before .before .before .before .before .before .before .before .args in
+    let l = lent (now (z .faults)) (now (z .marks)) in
+    let d = dev (z .s) (now (z .chip)) (now (z .buffer)) in
+    read-none l (z .offset) (now (z .room)) d (c .before .before .before .before .before .before .before .flush-page .ensures) (not-false _ (c .before .before .if1 .left)) _ (c .before .read-len .ensures) (c .if2 .taken)
 
 slice-relend-prefix-fetch : tie.Need-slice-relend-prefix-fetch
 slice-relend-prefix-fetch c = search needs
@@ -47,7 +55,11 @@ same-length-4 : tie.Need-same-length-4
 same-length-4 c = search needs
 
 returns-3 : tie.Need-returns-3
-returns-3 c = read-told (lent (now (c .before .before .before .before .before .before .before .before .before .before .before .before .before .before .before .before .before .before .before .before .before .args .faults)) (now (c .before .before .before .before .before .before .before .before .before .before .before .before .before .before .before .before .before .before .before .before .before .args .marks))) (c .before .before .before .before .before .before .before .before .before .before .before .before .before .before .before .before .before .before .before .before .before .args .offset) (now (c .before .before .before .before .before .before .before .before .before .before .before .before .before .before .before .before .before .before .before .before .before .args .room)) (dev (c .before .before .before .before .before .before .before .before .before .before .before .before .before .before .before .before .before .before .before .before .before .args .s) (now (c .before .before .before .before .before .before .before .before .before .before .before .before .before .before .before .before .before .before .before .before .before .args .chip)) (now (c .before .before .before .before .before .before .before .before .before .before .before .before .before .before .before .before .before .before .before .before .before .args .buffer))) (c .before .before .before .before .before .before .before .before .before .before .before .before .before .before .flush-page .ensures) (not-false _ (c .before .before .before .before .before .before .before .before .before .if1 .left)) _ (c .before .before .before .before .before .before .before .before .read-len .ensures) (c .before .before .before .before .before .before .before .if2 .left) (c .before .before .before .before .fetch .ensures) (c .before .count-of .ensures)
+returns-3 c =
+    let z = c .before .before .before .before .before .before .before .before .before .before .before .before .before .before .before .before .before .before .before .before .before .args in
+    let l = lent (now (z .faults)) (now (z .marks)) in
+    let d = dev (z .s) (now (z .chip)) (now (z .buffer)) in
+    read-told l (z .offset) (now (z .room)) d (c .before .before .before .before .before .before .before .before .before .before .before .before .before .before .flush-page .ensures) (not-false _ (c .before .before .before .before .before .before .before .before .before .if1 .left)) _ (c .before .before .before .before .before .before .before .before .read-len .ensures) (c .before .before .before .before .before .before .before .if2 .left) (c .before .before .before .before .fetch .ensures) (c .before .count-of .ensures)
 
 pub read-spec : {M : Type 1} → statement M
 read-spec =

@@ -22,16 +22,28 @@ same-length : tie.Need-same-length
 same-length c = search needs
 
 returns : tie.Need-returns
-returns c = attempt-unready (lent (now (c .before .before .before .before .before .before .before .before .before .before .before .before .args .faults)) (now (c .before .before .before .before .before .before .before .before .before .before .before .before .args .marks))) (dev (c .before .before .before .before .before .before .before .before .before .before .before .before .args .s) (now (c .before .before .before .before .before .before .before .before .before .before .before .before .args .chip)) (now (c .before .before .before .before .before .before .before .before .before .before .before .before .args .buffer))) (c .before .before .before .before .before .before .page-number .result) (c .before .before .before .before .before .before .page-number .ensures) (c .before .before .before .before .make-ready .ensures (now (c .before .before .before .before .before .before .before .before .before .before .before .before .args .buffer))) (not-true _ (c .if1 .taken))
+returns c =
+    let z = c .before .before .before .before .before .before .before .before .before .before .before .before .args in
+    let l = lent (now (z .faults)) (now (z .marks)) in
+    let d = dev (z .s) (now (z .chip)) (now (z .buffer)) in
+    attempt-unready l d (c .before .before .before .before .before .before .page-number .result) (c .before .before .before .before .before .before .page-number .ensures) (c .before .before .before .before .make-ready .ensures (now (z .buffer))) (not-true _ (c .if1 .taken))
 
 burn-requires : tie.Need-burn-requires
-burn-requires c κs = page-fits (sound-as (ready-shape (lent (now (c .before .before .before .before .before .before .before .before .before .before .before .before .before .before .args .faults)) (now (c .before .before .before .before .before .before .before .before .before .before .before .before .before .before .args .marks))) (dev (c .before .before .before .before .before .before .before .before .before .before .before .before .before .before .args .s) (now (c .before .before .before .before .before .before .before .before .before .before .before .before .before .before .args .chip)) (now (c .before .before .before .before .before .before .before .before .before .before .before .before .before .before .args .buffer))) (c .before .before .before .before .before .before .before .before .page-number .result) (c .before .before .before .before .before .before .make-ready .ensures (now (c .before .before .before .before .before .before .before .before .before .before .before .before .before .before .args .buffer)))) (c .before .before .before .before .before .before .before .before .before .before .before .before .before .before .pre))
+burn-requires c κs =
+    let z = c .before .before .before .before .before .before .before .before .before .before .before .before .before .before .args in
+    let l = lent (now (z .faults)) (now (z .marks)) in
+    let d = dev (z .s) (now (z .chip)) (now (z .buffer)) in
+    page-fits (sound-as (ready-shape l d (c .before .before .before .before .before .before .before .before .page-number .result) (c .before .before .before .before .before .before .make-ready .ensures (now (z .buffer)))) (c .before .before .before .before .before .before .before .before .before .before .before .before .before .before .pre))
 
 same-length-2 : tie.Need-same-length-2
 same-length-2 c = search needs
 
 returns-2 : tie.Need-returns-2
-returns-2 c = attempt-burns (lent (now (c .before .before .before .before .before .before .before .before .before .before .before .before .before .before .before .before .before .args .faults)) (now (c .before .before .before .before .before .before .before .before .before .before .before .before .before .before .before .before .before .args .marks))) (dev (c .before .before .before .before .before .before .before .before .before .before .before .before .before .before .before .before .before .args .s) (now (c .before .before .before .before .before .before .before .before .before .before .before .before .before .before .before .before .before .args .chip)) (now (c .before .before .before .before .before .before .before .before .before .before .before .before .before .before .before .before .before .args .buffer))) (c .before .before .before .before .before .before .before .before .before .before .before .page-number .result) (c .before .before .before .before .before .before .before .before .before .before .before .page-number .ensures) (c .before .before .before .before .before .before .before .before .before .make-ready .ensures (now (c .before .before .before .before .before .before .before .before .before .before .before .before .before .before .before .before .before .args .buffer))) (not-false _ (c .before .before .before .before .before .if1 .left)) (c .before .before .burn .ensures (now (c .before .before .before .before .before .before .before .before .before .before .before .before .before .before .before .before .before .args .marks)))
+returns-2 c =
+    let z = c .before .before .before .before .before .before .before .before .before .before .before .before .before .before .before .before .before .args in
+    let l = lent (now (z .faults)) (now (z .marks)) in
+    let d = dev (z .s) (now (z .chip)) (now (z .buffer)) in
+    attempt-burns l d (c .before .before .before .before .before .before .before .before .before .before .before .page-number .result) (c .before .before .before .before .before .before .before .before .before .before .before .page-number .ensures) (c .before .before .before .before .before .before .before .before .before .make-ready .ensures (now (z .buffer))) (not-false _ (c .before .before .before .before .before .if1 .left)) (c .before .before .burn .ensures (now (z .marks)))
 
 pub try-flush-spec : {M : Type 1} → statement M
 try-flush-spec =

@@ -14,16 +14,28 @@ same-length : tie.Need-same-length
 same-length c = search needs
 
 returns : tie.Need-returns
-returns c = once (lent (now (c .before .before .before .before .before .before .before .before .before .args .faults)) (now (c .before .before .before .before .before .before .before .before .before .args .marks))) (dev (c .before .before .before .before .before .before .before .before .before .args .s) (now (c .before .before .before .before .before .before .before .before .before .args .chip)) (now (c .before .before .before .before .before .before .before .before .before .args .buffer))) (c .before .before .before .try-flush .ensures) (c .if1 .taken)
+returns c =
+    let z = c .before .before .before .before .before .before .before .before .before .args in
+    let l = lent (now (z .faults)) (now (z .marks)) in
+    let d = dev (z .s) (now (z .chip)) (now (z .buffer)) in
+    once l d (c .before .before .before .try-flush .ensures) (c .if1 .taken)
 
 try-flush-requires-2 : tie.Need-try-flush-requires-2
-try-flush-requires-2 c κs = sound-as (attempt-shape (lent (now (c .before .before .before .before .before .before .before .before .before .before .before .args .faults)) (now (c .before .before .before .before .before .before .before .before .before .before .before .args .marks))) (dev (c .before .before .before .before .before .before .before .before .before .before .before .args .s) (now (c .before .before .before .before .before .before .before .before .before .before .before .args .chip)) (now (c .before .before .before .before .before .before .before .before .before .before .before .args .buffer))) (c .before .before .before .before .before .try-flush .ensures)) (c .before .before .before .before .before .before .before .before .before .before .before .pre)
+try-flush-requires-2 c κs =
+    let z = c .before .before .before .before .before .before .before .before .before .before .before .args in
+    let l = lent (now (z .faults)) (now (z .marks)) in
+    let d = dev (z .s) (now (z .chip)) (now (z .buffer)) in
+    sound-as (attempt-shape l d (c .before .before .before .before .before .try-flush .ensures)) (c .before .before .before .before .before .before .before .before .before .before .before .pre)
 
 same-length-2 : tie.Need-same-length-2
 same-length-2 c = search needs
 
 returns-2 : tie.Need-returns-2
-returns-2 c = twice (lent (now (c .before .before .before .before .before .before .before .before .before .before .before .before .before .before .args .faults)) (now (c .before .before .before .before .before .before .before .before .before .before .before .before .before .before .args .marks))) (dev (c .before .before .before .before .before .before .before .before .before .before .before .before .before .before .args .s) (now (c .before .before .before .before .before .before .before .before .before .before .before .before .before .before .args .chip)) (now (c .before .before .before .before .before .before .before .before .before .before .before .before .before .before .args .buffer))) (c .before .before .before .before .before .before .before .before .try-flush .ensures) (c .before .before .before .before .before .if1 .left) (c .before .before .try-flush2 .ensures)
+returns-2 c =
+    let z = c .before .before .before .before .before .before .before .before .before .before .before .before .before .before .args in
+    let l = lent (now (z .faults)) (now (z .marks)) in
+    let d = dev (z .s) (now (z .chip)) (now (z .buffer)) in
+    twice l d (c .before .before .before .before .before .before .before .before .try-flush .ensures) (c .before .before .before .before .before .if1 .left) (c .before .before .try-flush2 .ensures)
 
 pub try-twice-spec : {M : Type 1} → statement M
 try-twice-spec =

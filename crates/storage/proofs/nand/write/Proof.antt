@@ -10,16 +10,28 @@ use Rattle.storage.proofs.nand.write.Statement.{statement}
 use Rattle.storage.proofs.nand.write.Tie as tie
 
 returns : tie.Need-returns
-returns c = written-past (lent (now (c .before .before .before .before .before .before .before .args .faults)) (now (c .before .before .before .before .before .before .before .args .marks))) (c .before .before .before .before .before .before .before .args .offset) (now (c .before .before .before .before .before .before .before .args .bytes)) (dev (c .before .before .before .before .before .before .before .args .s) (now (c .before .before .before .before .before .before .before .args .chip)) (now (c .before .before .before .before .before .before .before .args .buffer))) (omega arith)
+returns c =
+    let z = c .before .before .before .before .before .before .before .args in
+    let l = lent (now (z .faults)) (now (z .marks)) in
+    let d = dev (z .s) (now (z .chip)) (now (z .buffer)) in
+    written-past l (z .offset) (now (z .bytes)) d (omega arith)
 
 returns-2 : tie.Need-returns-2
-returns-2 c = written-past (lent (now (c .before .before .before .before .before .before .before .before .before .args .faults)) (now (c .before .before .before .before .before .before .before .before .before .args .marks))) (c .before .before .before .before .before .before .before .before .before .args .offset) (now (c .before .before .before .before .before .before .before .before .before .args .bytes)) (dev (c .before .before .before .before .before .before .before .before .before .args .s) (now (c .before .before .before .before .before .before .before .before .before .args .chip)) (now (c .before .before .before .before .before .before .before .before .before .args .buffer))) (omega arith)
+returns-2 c =
+    let z = c .before .before .before .before .before .before .before .before .before .args in
+    let l = lent (now (z .faults)) (now (z .marks)) in
+    let d = dev (z .s) (now (z .chip)) (now (z .buffer)) in
+    written-past l (z .offset) (now (z .bytes)) d (omega arith)
 
 write-all-requires : tie.Need-write-all-requires
 write-all-requires c κs = search needs
 
 sub-count : tie.Need-sub-count
-sub-count c = no-less (c .before .before .before .before .before .before .before .before .before .before .before .before .before .before .before .before .before .args .s .shape .page) (loads (lent (now (c .before .before .before .before .before .before .before .before .before .before .before .before .before .before .before .before .before .args .faults)) (now (c .before .before .before .before .before .before .before .before .before .before .before .before .before .before .before .before .before .args .marks))) (c .before .before .before .before .before .before .before .before .before .before .before .before .before .before .before .before .before .args .s .shape .page)) stays (now (c .before .before .before .before .before .before .before .before .before .before .before .before .before .before .before .before .before .args .bytes)) (c .before .before .before .before .before .before .before .before .before .before .before .before .before .before .before .before .before .args .offset) (dev (c .before .before .before .before .before .before .before .before .before .before .before .before .before .before .before .before .before .args .s) (now (c .before .before .before .before .before .before .before .before .before .before .before .before .before .before .before .before .before .args .chip)) (now (c .before .before .before .before .before .before .before .before .before .before .before .before .before .before .before .before .before .args .buffer))) (c .before .before .before .before .before .write-all .ensures)
+sub-count c =
+    let z = c .before .before .before .before .before .before .before .before .before .before .before .before .before .before .before .before .before .args in
+    let l = lent (now (z .faults)) (now (z .marks)) in
+    let d = dev (z .s) (now (z .chip)) (now (z .buffer)) in
+    no-less (z .s .shape .page) (loads l (z .s .shape .page)) stays (now (z .bytes)) (z .offset) d (c .before .before .before .before .before .write-all .ensures)
 
 same-length : tie.Need-same-length
 same-length c = search needs
@@ -28,7 +40,11 @@ same-length-2 : tie.Need-same-length-2
 same-length-2 c = search needs
 
 returns-3 : tie.Need-returns-3
-returns-3 c = written-told (lent (now (c .before .before .before .before .before .before .before .before .before .before .before .before .before .before .before .before .before .before .args .faults)) (now (c .before .before .before .before .before .before .before .before .before .before .before .before .before .before .before .before .before .before .args .marks))) (c .before .before .before .before .before .before .before .before .before .before .before .before .before .before .before .before .before .before .args .offset) (now (c .before .before .before .before .before .before .before .before .before .before .before .before .before .before .before .before .before .before .args .bytes)) (dev (c .before .before .before .before .before .before .before .before .before .before .before .before .before .before .before .before .before .before .args .s) (now (c .before .before .before .before .before .before .before .before .before .before .before .before .before .before .before .before .before .before .args .chip)) (now (c .before .before .before .before .before .before .before .before .before .before .before .before .before .before .before .before .before .before .args .buffer))) (omega arith) (c .before .before .before .before .before .before .write-all .ensures)
+returns-3 c =
+    let z = c .before .before .before .before .before .before .before .before .before .before .before .before .before .before .before .before .before .before .args in
+    let l = lent (now (z .faults)) (now (z .marks)) in
+    let d = dev (z .s) (now (z .chip)) (now (z .buffer)) in
+    written-told l (z .offset) (now (z .bytes)) d (omega arith) (c .before .before .before .before .before .before .write-all .ensures)
 
 pub write-spec : {M : Type 1} → statement M
 write-spec =

@@ -15,8 +15,6 @@ use Rattle.storage.specs.Nand.{loads, stays}
 use Rattle.storage.proofs.Fold.{piece-failed, piece-went, finished}
 use Rattle.storage.proofs.NandKeeps.{sound-as, sound-with, writes-shape}
 use Rattle.storage.proofs.NandMoves.{piece-length, piece-some, piece-within, piece-ends}
-use native.Mathlib.Nat.{mod-lt}
-use lib.ListN.{length, drop}
 use Rattle.storage.proofs.nand.write_all.Statement.{statement}
 use Rattle.storage.proofs.nand.write_all.Tie as tie
 
@@ -53,13 +51,17 @@ part-piece-end : tie.Need-part-piece-end Inv-loop μ-loop
 part-piece-end c = search needs
 
 piece-requires : tie.Need-piece-requires Inv-loop μ-loop
-piece-requires c κs = (
-  sound-as (c .before .before .before .before .before .loop .inv .3) (sound-with (c .before .before .before .before .before .loop .inv .2) (c .before .before .before .before .before .before .before .before .before .before .before .pre .0)),
-  ap (λ (h : Shape). h .page) (sym (c .before .before .before .before .before .loop .inv .3)),
-  piece-some (c .before .before .before .before .before .before .before .before .before .before .before .args .s .shape .page) (c .before .before .before .before .before .before .before .before .before .before .before .args .offset + c .before .before .before .before .before .loop .done) (c .before .before .before .before .before .loop .done) (c .before .before .before .piece-len .result) (now (c .before .before .before .before .before .before .before .before .before .before .before .args .bytes)) (c .before .before .before .before .before .before .before .before .before .before .before .pre .0 .shaped .page-some) (c .before .before .before .piece-len .ensures) (c .before .before .before .before .loop-test .taken),
-  piece-within (c .before .before .before .before .before .before .before .before .before .before .before .args .s .shape .page) (c .before .before .before .before .before .before .before .before .before .before .before .args .offset + c .before .before .before .before .before .loop .done) (c .before .before .before .before .before .loop .done) (c .before .before .before .piece-len .result) (now (c .before .before .before .before .before .before .before .before .before .before .before .args .bytes)) (c .before .before .before .before .before .before .before .before .before .before .before .pre .0 .shaped .page-some) (c .before .before .before .piece-len .ensures),
-  rw (piece-length (c .before .before .before .before .before .before .before .before .before .before .before .args .s .shape .page) (c .before .before .before .before .before .before .before .before .before .before .before .args .offset + c .before .before .before .before .before .loop .done) (c .before .before .before .before .before .loop .done) (c .before .before .before .piece-len .result) (now (c .before .before .before .before .before .before .before .before .before .before .before .args .bytes)) (c .before .before .before .before .before .before .before .before .before .before .before .pre .0 .shaped .page-some) (c .before .before .before .piece-len .ensures)) (omega (arith, c .before .before .before .before .before .before .before .before .before .before .before .pre .1, c .before .before .before .piece-len .ensures)),
-)
+piece-requires c κs =
+    let z = c .before .before .before .before .before .before .before .before .before .before .before .args in
+    let w = c .before .before .before .before .before .loop in
+    let r = c .before .before .before .before .before .before .before .before .before .before .before .pre in
+    let n = c .before .before .before .piece-len in (
+      sound-as (w .inv .3) (sound-with (w .inv .2) (r .0)),
+      ap (λ (h : Shape). h .page) (sym (w .inv .3)),
+      piece-some (z .s .shape .page) (z .offset + w .done) (w .done) (n .result) (now (z .bytes)) (r .0 .shaped .page-some) (n .ensures) (c .before .before .before .before .loop-test .taken),
+      piece-within (z .s .shape .page) (z .offset + w .done) (w .done) (n .result) (now (z .bytes)) (r .0 .shaped .page-some) (n .ensures),
+      rw (piece-length (z .s .shape .page) (z .offset + w .done) (w .done) (n .result) (now (z .bytes)) (r .0 .shaped .page-some) (n .ensures)) (omega (arith, r .1, n .ensures)),
+    )
 
 same-length : tie.Need-same-length Inv-loop μ-loop
 same-length c = search needs
@@ -68,19 +70,32 @@ same-length-2 : tie.Need-same-length-2 Inv-loop μ-loop
 same-length-2 c = search needs
 
 returns : tie.Need-returns Inv-loop μ-loop
-returns c = piece-failed (c .before .before .before .before .before .before .before .before .before .before .before .before .before .before .before .before .before .before .args .s .shape .page) (loads (lent (now (c .before .before .before .before .before .before .before .before .before .before .before .before .before .before .before .before .before .before .args .faults)) (now (c .before .before .before .before .before .before .before .before .before .before .before .before .before .before .before .before .before .before .args .marks))) (c .before .before .before .before .before .before .before .before .before .before .before .before .before .before .before .before .before .before .args .s .shape .page)) stays (now (c .before .before .before .before .before .before .before .before .before .before .before .before .before .before .before .before .before .before .args .bytes)) (c .before .before .before .before .before .before .before .before .before .before .before .before .loop .done) (c .before .before .before .before .before .before .before .before .before .before .before .before .loop .done + c .before .before .before .before .before .before .before .before .before .before .piece-len .result) (c .before .before .before .before .before .before .before .before .before .before .before .before .before .before .before .before .before .before .args .offset) (dev (c .before .before .before .before .before .before .before .before .before .before .before .before .loop .store) (c .before .before .before .before .before .before .before .before .before .before .before .before .loop .chip) (c .before .before .before .before .before .before .before .before .before .before .before .before .loop .buffer)) (omega arith) (c .before .before .before .before .before .before .piece .ensures) (not-true _ (c .if1 .taken)) ∙ c .before .before .before .before .before .before .before .before .before .before .before .before .loop .inv .4
+returns c =
+    let z = c .before .before .before .before .before .before .before .before .before .before .before .before .before .before .before .before .before .before .args in
+    let w = c .before .before .before .before .before .before .before .before .before .before .before .before .loop in
+    let l = lent (now (z .faults)) (now (z .marks)) in
+    let e = dev (w .store) (w .chip) (w .buffer) in
+    piece-failed (z .s .shape .page) (loads l (z .s .shape .page)) stays (now (z .bytes)) (w .done) (w .done + c .before .before .before .before .before .before .before .before .before .before .piece-len .result) (z .offset) e (omega arith) (c .before .before .before .before .before .before .piece .ensures) (not-true _ (c .if1 .taken)) ∙ w .inv .4
 
 loop-less : tie.Need-loop-less Inv-loop μ-loop
-loop-less c = omega (arith, c .before .before .before .before .before .before .before .before .before .before .before .piece-len .ensures, c .before .before .before .before .before .before .before .before .before .before .before .before .loop-test .taken, c .before .before .before .before .before .before .before .before .before .before .before .before .before .loop .inv .0, mod-lt (c .before .before .before .before .before .before .before .before .before .before .before .before .before .before .before .before .before .before .before .args .offset + c .before .before .before .before .before .before .before .before .before .before .before .before .before .loop .done) (c .before .before .before .before .before .before .before .before .before .before .before .before .before .before .before .before .before .before .before .pre .0 .shaped .page-some))
+loop-less c =
+    let w = c .before .before .before .before .before .before .before .before .before .before .before .before .before .loop in
+    omega (arith, c .before .before .before .before .before .before .before .before .before .before .before .piece-len .ensures, c .before .before .before .before .before .before .before .before .before .before .before .before .loop-test .taken, w .inv .0, mod-lt (c .before .before .before .before .before .before .before .before .before .before .before .before .before .before .before .before .before .before .before .args .offset + w .done) (c .before .before .before .before .before .before .before .before .before .before .before .before .before .before .before .before .before .before .before .pre .0 .shaped .page-some))
 
 loop-again : tie.Need-loop-again Inv-loop μ-loop
-loop-again c = (
-  piece-ends (c .before .before .before .before .before .before .before .before .before .before .before .before .before .before .before .before .before .before .before .args .s .shape .page) (c .before .before .before .before .before .before .before .before .before .before .before .before .before .before .before .before .before .before .before .args .offset + c .before .before .before .before .before .before .before .before .before .before .before .before .before .loop .done) (c .before .before .before .before .before .before .before .before .before .before .before .before .before .loop .done) (c .before .before .before .before .before .before .before .before .before .before .before .piece-len .result) (now (c .before .before .before .before .before .before .before .before .before .before .before .before .before .before .before .before .before .before .before .args .bytes)) (c .before .before .before .before .before .before .before .before .before .before .before .before .before .before .before .before .before .before .before .pre .0 .shaped .page-some) (c .before .before .before .before .before .before .before .before .before .before .before .piece-len .ensures) (c .before .before .before .before .before .before .before .before .before .before .before .before .before .loop .inv .0),
-  omega arith,
-  omega arith,
-  writes-shape (lent (now (c .before .before .before .before .before .before .before .before .before .before .before .before .before .before .before .before .before .before .before .args .faults)) (now (c .before .before .before .before .before .before .before .before .before .before .before .before .before .before .before .before .before .before .before .args .marks))) (dev (c .before .before .before .before .before .before .before .before .before .before .before .before .before .loop .store) (c .before .before .before .before .before .before .before .before .before .before .before .before .before .loop .chip) (c .before .before .before .before .before .before .before .before .before .before .before .before .before .loop .buffer)) (c .before .before .before .before .before .before .before .before .before .before .before .before .before .before .before .before .before .before .before .args .s .shape .page) (take (c .before .before .before .before .before .before .before .before .before .before .before .before .before .loop .done + c .before .before .before .before .before .before .before .before .before .before .before .piece-len .result - c .before .before .before .before .before .before .before .before .before .before .before .before .before .loop .done) (drop (c .before .before .before .before .before .before .before .before .before .before .before .before .before .loop .done) (now (c .before .before .before .before .before .before .before .before .before .before .before .before .before .before .before .before .before .before .before .args .bytes)))) (c .before .before .before .before .before .before .before .before .before .before .before .before .before .before .before .before .before .before .before .args .offset + c .before .before .before .before .before .before .before .before .before .before .before .before .before .loop .done) (c .before .before .before .before .before .before .before .piece .ensures) ∙ c .before .before .before .before .before .before .before .before .before .before .before .before .before .loop .inv .3,
-  piece-went (c .before .before .before .before .before .before .before .before .before .before .before .before .before .before .before .before .before .before .before .args .s .shape .page) (loads (lent (now (c .before .before .before .before .before .before .before .before .before .before .before .before .before .before .before .before .before .before .before .args .faults)) (now (c .before .before .before .before .before .before .before .before .before .before .before .before .before .before .before .before .before .before .before .args .marks))) (c .before .before .before .before .before .before .before .before .before .before .before .before .before .before .before .before .before .before .before .args .s .shape .page)) stays (now (c .before .before .before .before .before .before .before .before .before .before .before .before .before .before .before .before .before .before .before .args .bytes)) (c .before .before .before .before .before .before .before .before .before .before .before .before .before .loop .done) (c .before .before .before .before .before .before .before .before .before .before .before .before .before .loop .done + c .before .before .before .before .before .before .before .before .before .before .before .piece-len .result) (c .before .before .before .before .before .before .before .before .before .before .before .before .before .before .before .before .before .before .before .args .offset) (dev (c .before .before .before .before .before .before .before .before .before .before .before .before .before .loop .store) (c .before .before .before .before .before .before .before .before .before .before .before .before .before .loop .chip) (c .before .before .before .before .before .before .before .before .before .before .before .before .before .loop .buffer)) (omega arith) (c .before .before .before .before .before .before .before .piece .ensures) (piece-ends (c .before .before .before .before .before .before .before .before .before .before .before .before .before .before .before .before .before .before .before .args .s .shape .page) (c .before .before .before .before .before .before .before .before .before .before .before .before .before .before .before .before .before .before .before .args .offset + c .before .before .before .before .before .before .before .before .before .before .before .before .before .loop .done) (c .before .before .before .before .before .before .before .before .before .before .before .before .before .loop .done) (c .before .before .before .before .before .before .before .before .before .before .before .piece-len .result) (now (c .before .before .before .before .before .before .before .before .before .before .before .before .before .before .before .before .before .before .before .args .bytes)) (c .before .before .before .before .before .before .before .before .before .before .before .before .before .before .before .before .before .before .before .pre .0 .shaped .page-some) (c .before .before .before .before .before .before .before .before .before .before .before .piece-len .ensures) (c .before .before .before .before .before .before .before .before .before .before .before .before .before .loop .inv .0)) (not-false _ (c .before .if1 .left)) ∙ c .before .before .before .before .before .before .before .before .before .before .before .before .before .loop .inv .4,
-)
+loop-again c =
+    let z = c .before .before .before .before .before .before .before .before .before .before .before .before .before .before .before .before .before .before .before .args in
+    let w = c .before .before .before .before .before .before .before .before .before .before .before .before .before .loop in
+    let r = c .before .before .before .before .before .before .before .before .before .before .before .before .before .before .before .before .before .before .before .pre in
+    let n = c .before .before .before .before .before .before .before .before .before .before .before .piece-len in
+    let l = lent (now (z .faults)) (now (z .marks)) in
+    let e = dev (w .store) (w .chip) (w .buffer) in (
+      piece-ends (z .s .shape .page) (z .offset + w .done) (w .done) (n .result) (now (z .bytes)) (r .0 .shaped .page-some) (n .ensures) (w .inv .0),
+      omega arith,
+      omega arith,
+      writes-shape l e (z .s .shape .page) (take (w .done + n .result - w .done) (drop (w .done) (now (z .bytes)))) (z .offset + w .done) (c .before .before .before .before .before .before .before .piece .ensures) ∙ w .inv .3,
+      piece-went (z .s .shape .page) (loads l (z .s .shape .page)) stays (now (z .bytes)) (w .done) (w .done + n .result) (z .offset) e (omega arith) (c .before .before .before .before .before .before .before .piece .ensures) (piece-ends (z .s .shape .page) (z .offset + w .done) (w .done) (n .result) (now (z .bytes)) (r .0 .shaped .page-some) (n .ensures) (w .inv .0)) (not-false _ (c .before .if1 .left)) ∙ w .inv .4,
+    )
 
 add-at : tie.Need-add-at Inv-loop μ-loop
 add-at c = search needs
@@ -92,7 +107,12 @@ same-length-4 : tie.Need-same-length-4 Inv-loop μ-loop
 same-length-4 c = search needs
 
 returns-2 : tie.Need-returns-2 Inv-loop μ-loop
-returns-2 c = finished (c .before .before .before .before .before .before .before .args .s .shape .page) (loads (lent (now (c .before .before .before .before .before .before .before .args .faults)) (now (c .before .before .before .before .before .before .before .args .marks))) (c .before .before .before .before .before .before .before .args .s .shape .page)) stays (now (c .before .before .before .before .before .before .before .args .bytes)) (c .before .loop .done) (run true (c .before .before .before .before .before .before .before .args .offset + c .before .loop .done) (dev (c .before .loop .store) (c .before .loop .chip) (c .before .loop .buffer))) (c .loop-test .left) ∙ c .before .loop .inv .4
+returns-2 c =
+    let z = c .before .before .before .before .before .before .before .args in
+    let w = c .before .loop in
+    let l = lent (now (z .faults)) (now (z .marks)) in
+    let e = dev (w .store) (w .chip) (w .buffer) in
+    finished (z .s .shape .page) (loads l (z .s .shape .page)) stays (now (z .bytes)) (w .done) (run true (z .offset + w .done) e) (c .loop-test .left) ∙ w .inv .4
 
 pub write-all-spec : {M : Type 1} → statement M
 write-all-spec =
