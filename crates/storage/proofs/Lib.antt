@@ -13,3 +13,4 @@ pub mod NandMoves
 pub mod Partitions
 pub mod Powers
 pub mod Opens
+pub mod Stores

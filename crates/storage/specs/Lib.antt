@@ -6,3 +6,4 @@ pub mod Nand
 pub mod Partition
 pub mod Open
 pub mod OpenExamples
+pub mod Store

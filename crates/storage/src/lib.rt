@@ -5,4 +5,5 @@ pub mod nand;
 pub mod nor;
 pub mod open;
 pub mod partition;
+pub mod store;
 pub mod types;
