@@ -1,10 +1,12 @@
 -- Within chip and capacity, and with no call told to fail, a NOR read and erase succeed in full: the read gives what the store shows,
--- the erase leaves every touched sector blank. Write and flush are in Stream and View.
+-- the erase leaves every touched sector blank. Write and flush are in Stream and View. And what an erase of size 0 does (01, 'Chips and
+-- buffering').
 use mathlib.Core.Path.{_≡_, refl, sym, ap, ap₂, subst, _∙_}
-use mathlib.Core.Bool.{true, false}
+use mathlib.Core.Bool.{true, false, cond}
 use mathlib.Core.List.{List, _++_}
 use Prim.Native.Nat.{ℕ, zero, suc, _+_, _-_, _*_, _%_, _≤_, min}
 use native.Mathlib.Omega.{arith}
+use lib.Dec.{leb}
 use lib.ListN.{length, take, drop, replicate, length-replicate}
 use lib.Seq.{length-take-le}
 use Rattle.storage.specs.declared.types.Shape.{Shape}
@@ -22,6 +24,25 @@ use Rattle.storage_laws.specs.View.{Quiet, Shows, flush-shows, free-show
 -- v with every sector blank that a range touches
 abbrev pub wiped : ℕ → ℕ → List ℕ → List ℕ
 wiped start size v = let b = base 4096 start in over b (replicate (pagesOf 4096 (satAdd start size - b) * 4096) 255) v
+
+-- ---- an erase of size 0, whatever the chip does: at a sector's start it erases nothing, elsewhere the one sector
+
+no-size : (start : ℕ) → start ≤ 18446744073709551615 → satAdd start 0 ≡ start
+no-size start h = omega arith
+
+pub erase-none-aligned : (F : List ℕ) (start : ℕ) (d : Dev) → start ≤ 18446744073709551615 → start % 4096 ≡ 0
+    → erased F start 0 d ≡ andThen (flushes F d) (λ f. cond (leb start (f .store .shape .capacity)) (out true f) (out false f))
+unfolding erased eraseN
+erase-none-aligned F start d h z =
+    let k : pagesOf 4096 (satAdd start 0 - base 4096 start) ≡ 0 = omega arith in
+    ap₂ (λ (e n : ℕ). andThen (flushes F d) (λ f. cond (leb e (f .store .shape .capacity)) (eraseN F n (base 4096 start) f) (out false f))) (no-size start h) k
+
+pub erase-none-within : (F : List ℕ) (start : ℕ) (d : Dev) → start ≤ 18446744073709551615 → (start % 4096 ≡ 0 → ⊥)
+    → erased F start 0 d ≡ andThen (flushes F d) (λ f. cond (leb start (f .store .shape .capacity)) (eraseN F 1 (base 4096 start) f) (out false f))
+unfolding erased
+erase-none-within F start d h z =
+    let k : pagesOf 4096 (satAdd start 0 - base 4096 start) ≡ 1 = omega arith in
+    ap₂ (λ (e n : ℕ). andThen (flushes F d) (λ f. cond (leb e (f .store .shape .capacity)) (eraseN F n (base 4096 start) f) (out false f))) (no-size start h) k
 
 module _ (F : List ℕ) (quiet : Quiet F) where
   -- ---- read
