@@ -1,6 +1,8 @@
 pub mod Pages
 pub mod Chips
 pub mod Fold
+pub mod Over
+pub mod Programs
 pub mod NandCalls
 pub mod NandKeeps
 pub mod NandSteps
