@@ -6,6 +6,8 @@ pub mod Over
 pub mod Programs
 pub mod Sectors
 pub mod Nors
+pub mod Over
+pub mod Programs
 pub mod NandCalls
 pub mod NandKeeps
 pub mod NandSteps

@@ -14,7 +14,7 @@ use lib.ListN.{length, take, drop, set, getD, replicate, length-replicate}
 use Rattle.text.specs.Token.{same}
 use Rattle.storage.specs.declared.types.Store.{Store}
 use Rattle.storage.specs.World.{Lent, dev, out}
-use Rattle.storage.specs.Chip.{failing, able, called, over, programs}
+use Rattle.storage.specs.Chip.{failing, able, called, over}
 use Rattle.storage.specs.Nand.{blanks, kept, asksGood, programPage}
 use Rattle.storage.proofs.Chips.{part-length}
 
@@ -69,18 +69,6 @@ module _ (l : Lent) (k : ℕ) (s : Store) (c b : List ℕ) {st : Store} (q : st 
   asked e = rw (q, e)
 
 module _ (F : List ℕ) (s : Store) (chip : List ℕ) (a : ℕ) (xs b : List ℕ) {st : Store} (q : st ≡ called s) where
-  pub sets-fails : able F s chip a (length xs) ≡ false → out false (dev st chip b) ≡ programs F a xs (dev s chip b)
-  unfolding programs
-  sets-fails e = rw (q, e)
-
-  -- a call that set the part `&mut chip[a..e]`
-  pub sets-part : (e : ℕ) {ys : List ℕ} → able F s chip a (length xs) ≡ true → e ≡ a + length xs → ys ≡ xs
-      → out true (dev st (putMid a (e - a) chip ys) b) ≡ programs F a xs (dev s chip b)
-  unfolding programs over
-  sets-part e t p r =
-      let k : e - a ≡ length xs = omega arith in
-      rw (q, t, k, r)
-
   pub page-fails : able F s chip a (length xs) ≡ false → out false (dev st chip b) ≡ programPage F a xs (dev s chip b)
   unfolding programPage
   page-fails e = rw (q, e)

@@ -200,10 +200,10 @@ fn burn(s: Store, faults: &[u8], chip: &mut [u8], buffer: &[u8]) -> Done
         return w;
     }
     let next = w.store;
-    let none = remember(next, Erased::None);
+    let forgot = remember(next, Erased::None);
     Done {
         ok: false,
-        store: none,
+        store: forgot,
     }
 }
 

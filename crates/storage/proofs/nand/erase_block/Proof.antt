@@ -7,7 +7,8 @@ use borrow.Author.Tests.{not-true, not-false}
 use borrow.Author.Needs.{needs}
 use Rattle.storage.specs.Nand.{blockSize, blanks, eraseBlock}
 use Rattle.storage.proofs.Chips.{able-fits}
-use Rattle.storage.proofs.NandCalls.{sets-fails, sets-part, length-blanks, blank-part}
+use Rattle.storage.proofs.Programs.{programs-fails, programs-part}
+use Rattle.storage.proofs.NandCalls.{length-blanks, blank-part}
 use Rattle.storage.proofs.nand.erase_block.Statement.{statement}
 use Rattle.storage.proofs.nand.erase_block.Tie as tie
 
@@ -30,7 +31,7 @@ returns : tie.Need-returns
 unfolding eraseBlock
 returns c b =
     let z = c .before .before .before .before .before .before .before .args in
-    sets-fails (now (z .faults)) (z .s) (now (z .chip)) (z .k * blockSize (z .s)) (blanks (blockSize (z .s))) _ (c .before .before .before .take-call .ensures) (rw length-blanks (sym (c .before .may .ensures) ∙ not-true _ (c .if1 .taken)))
+    programs-fails (now (z .faults)) (z .s) (now (z .chip)) (z .k * blockSize (z .s)) (blanks (blockSize (z .s))) _ (c .before .before .before .take-call .ensures) (rw length-blanks (sym (c .before .may .ensures) ∙ not-true _ (c .if1 .taken)))
 
 add-end : tie.Need-add-end
 add-end c = search needs
@@ -56,7 +57,7 @@ returns-2 : tie.Need-returns-2
 unfolding eraseBlock
 returns-2 c b =
     let z = c .before .before .before .before .before .before .before .before .before .before .before .args in
-    sets-part (now (z .faults)) (z .s) (now (z .chip)) (z .k * blockSize (z .s)) (blanks (blockSize (z .s))) _ (c .before .before .before .before .before .before .before .take-call .ensures)
+    programs-part (now (z .faults)) (z .s) (now (z .chip)) (z .k * blockSize (z .s)) (blanks (blockSize (z .s))) _ (c .before .before .before .before .before .before .before .take-call .ensures)
     (z .k * blockSize (z .s) + blockSize (z .s)) (rw length-blanks (sym (c .before .before .before .before .before .may .ensures) ∙ not-false _ (c .before .before .before .before .if1 .left))) (rw length-blanks)
     (c .before .before .fill .ensures ∙ blank-part (z .k * blockSize (z .s)) (z .k * blockSize (z .s) + blockSize (z .s)) (blockSize (z .s)) (now (z .chip)) refl (able-fits (now (z .faults)) (z .s) (now (z .chip)) (z .k * blockSize (z .s)) (blockSize (z .s)) (sym (c .before .before .before .before .before .may .ensures) ∙ not-false _ (c .before .before .before .before .if1 .left))))
 
