@@ -1,12 +1,13 @@
 -- Laws of openings and of the tests that later calls make. Exported for callers: `Geometry`, `geometry` (what NAND's numbers have),
 -- `Sound`, `sound` (what a record and the lengths lent with it have where `fits` answers true), `opened-nor`, `opened-nand` (what an
--- opening gives), `opened-nor-sound`, `opened-nand-sound` (it is in bounds, and its own parts fit).
+-- opening gives), `opened-nor-sound`, `opened-nand-sound` (it is in bounds, and its own parts fit), `bounds-kept`, `parts-kept` (so they
+-- stay after a call that keeps the shape).
 use mathlib.Core.Path.{_≡_, refl, sym, ap, _∙_}
 use mathlib.Core.Bool.{Bool, true, false, _&&_}
 use Prim.Native.Nat.{ℕ, _+_, _-_, _*_, _%_, max, _≤_, _<_}
 use native.Mathlib.Nat.{mul-le-mul, mul-pos}
 use native.Mathlib.Omega.{arith}
-use borrow.Author.Tests.{le-leb, lt-leb, leb-true, leb-false, eqb-true, ltb-true}
+use borrow.Author.Tests.{le-leb, lt-leb, leb-true, leb-false, eq-eqb, eqb-true, lt-ltb, ltb-true}
 use lib.Dec.{leb, eqb}
 use Rattle.storage.specs.declared.types.Kind.{Kind}
 use Rattle.storage.specs.declared.types.Kind.the-variants.{Nor, Nand}
@@ -134,6 +135,25 @@ module _ (s : Store) (chip marks buffer : ℕ) where
             let z = chip-facts (s .shape .page) (s .shape .pages) (s .shape .blocks) chip marks (ap (λ (x : Kind). byKind x (norSize chip) (chipOk (s .shape .page) (s .shape .pages) (s .shape .blocks) chip marks)) (sym k) ∙ f .1) in
             record { numbers = geometry (s .shape .page) (s .shape .pages) (s .shape .blocks) (bounds-nand s (p .0) k); chip-is = z .0; marks-are = z .1 };
       }
+
+-- ---- a call that keeps the shape keeps the record in bounds, and the parts that fit it
+
+held-made : (held : Bool) (at unit capacity : ℕ) → (held ≡ true → (at % unit ≡ 0) × (at < capacity)) → heldOk held at unit capacity ≡ true
+unfolding heldOk
+held-made true at unit capacity f = let p = f refl in rw (eq-eqb (at % unit) 0 (p .0), lt-ltb at capacity (p .1))
+held-made false at unit capacity f = refl
+
+module _ (s t : Store) (k : t .shape ≡ s .shape) where
+  pub bounds-kept : (t .held ≡ true → (t .at % unitOf s ≡ 0) × (t .at < s .shape .capacity)) → inBounds s ≡ true → inBounds t ≡ true
+  unfolding inBounds
+  bounds-kept f e =
+      let b = both (leb (s .shape .capacity) 2147483648) _ e in
+      let c = both (byKind (s .shape .kind) true (geometryOk (s .shape .page) (s .shape .pages) (s .shape .blocks))) _ (b .1) in
+      rw (k, b .0, c .0) (held-made (t .held) (t .at) (unitOf s) (s .shape .capacity) f)
+
+  pub parts-kept : (chip marks buffer : ℕ) → partsFit t chip marks buffer ≡ partsFit s chip marks buffer
+  unfolding partsFit
+  parts-kept chip marks buffer = rw k
 
 -- ---- what an opening gives
 

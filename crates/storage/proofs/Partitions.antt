@@ -1,5 +1,5 @@
 -- Laws of partitions: one partition, what the lists say from a place on, and the lookup. Exported for callers: `Fine`, `fine`
--- (what lists have that are not refused), `end-most`, `First`, `find-first`, `find-most`, `lookup-at`, `lookup-most`,
+-- (what lists have that are not refused), `end-most`, `First`, `find-first`, `find-most`, `find-bound`, `lookup-at`, `lookup-most`,
 -- `lookup-wanted`, `lookup-answers`.
 use mathlib.Core.Path.{_≡_, refl, sym, ap, _∙_}
 use mathlib.Core.Bool.{Bool, true, false, _&&_, cond}
@@ -325,6 +325,10 @@ find-never w (p ∷ ps) r = go (same (p .name) w) r (find-never w ps)
     go : (t : Bool) → cond t (At (p .offset)) (find w ps) ≡ Refused → (find w ps ≡ Refused → ⊥) → ⊥
     go true k f = let z : _≡_ {A = ℕ} 0 1 = cc in omega arith
     go false k f = f k
+
+-- so it starts at 2^31 at most, in lists that are not refused
+pub find-bound : (l : Lists) (w : List ℕ) (o : ℕ) → listsOk l ≡ true → find w (parts l) ≡ At o → o ≤ 2147483648
+find-bound l w o h e = omega (arith, find-most w (parts l) o e, ends-most (parts l) (all-ok l h))
 
 module _ (l : Lists) where
   -- what is looked up is found in lists that are not refused, by a text that is UTF-8

@@ -93,7 +93,7 @@ fn nor_size(n: usize) -> bool
 }
 
 // Row 14: the scratch ends at most at 2^32. Its end is tested before it is computed.
-fn scratch_ok(base: u32, n: usize) -> bool
+pub fn scratch_ok(base: u32, n: usize) -> bool
     ensures { λ r. ⌜ r ≡ scratchOk base n ⌝ }
 {
     if 4294967296 < n {
@@ -291,7 +291,7 @@ fn parts_fit(s: Store, chip: usize, marks: usize, buffer: usize) -> bool
 }
 
 // Are a record and the lengths of what is lent with it as an opening and the calls since leave them.
-pub(crate) fn fits(s: Store, chip: usize, marks: usize, buffer: usize) -> bool
+pub fn fits(s: Store, chip: usize, marks: usize, buffer: usize) -> bool
     ensures { λ r. ⌜ r ≡ (inBounds s && partsFit s chip marks buffer) ⌝ }
 {
     if !in_bounds(s) {

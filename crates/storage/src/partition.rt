@@ -132,6 +132,7 @@ pub fn lookup(offsets: &[u64], sizes: &[u64], lens: &[u64], names: &[u8], name: 
     if !is_utf8(name) {
         return Found::Nothing;
     }
-    let wanted = trim(before_semicolon(name));
+    let before = before_semicolon(name);
+    let wanted = trim(before);
     find(offsets, sizes, lens, names, wanted)
 }
