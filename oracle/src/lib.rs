@@ -45,6 +45,7 @@ pub mod spi_flash {
 
 pub mod chip;
 pub mod crc;
+pub mod make;
 pub mod opening;
 pub mod quiet;
 pub mod record;
