@@ -521,6 +521,22 @@ fn reading_12_the_shell() {
 }
 
 #[test]
+fn reading_13_sizes_on_nand() {
+    let mut opening = nand(2048, 4, 2, &[]);
+    opening.boot_stage = 1;
+    let mut talk = Talk::engine(opening);
+    let page = 2048u32.to_le_bytes();
+    talk.ask(&frame(0x11, &[]), OK, &reply(0x11, OK, &page));
+    let capacity = 16_384u64.to_le_bytes();
+    let sizes = [&capacity[..], &page, &page, &[0; 8]].concat();
+    talk.ask(&frame(0x1A, &[]), OK, &reply(0x1A, OK, &sizes));
+    let mut media = [0; 68];
+    media[..8].copy_from_slice(b"spi-nand");
+    talk.ask(&frame(0x16, &[]), OK, &reply(0x16, OK, &media));
+    talk.check();
+}
+
+#[test]
 fn reading_14_packets() {
     let mut talk = Talk::engine(nor(4096, &[]));
     // A frame in two packets; the status is the last one's.

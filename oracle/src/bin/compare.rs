@@ -12,7 +12,7 @@ use std::process::{Command, Stdio, exit};
 use std::thread::sleep;
 use std::time::{Duration, Instant};
 
-use harness::make::{Kind, session};
+use harness::make::{Kind, Plan, session};
 use harness::record::{Next, OPEN_ENGINE, OPEN_STORAGE, Reader};
 use harness::run::{Options, check_build, push_hex, run};
 
@@ -83,11 +83,11 @@ fn main() {
     check_build();
     println!("seed {seed}");
     for name in kinds.split_whitespace() {
-        let Some(kind) = Kind::parse(name) else {
+        let Some(plan) = Plan::parse(name) else {
             eprintln!("compare: there is no kind {name}");
             exit(2);
         };
-        if !compare(&lab, name, kind, count, seed) {
+        if !compare(&lab, name, plan, count, seed) {
             exit(1);
         }
     }
@@ -95,10 +95,10 @@ fn main() {
 }
 
 /// All sessions of a kind. False after a difference.
-fn compare(lab: &Lab, name: &str, kind: Kind, count: u64, seed: u64) -> bool {
+fn compare(lab: &Lab, name: &str, plan: Plan, count: u64, seed: u64) -> bool {
     let start = Instant::now();
     // A session of this kind ends the run, and starting the program takes its time.
-    let (count, chunk) = match kind {
+    let (count, chunk) = match plan.kind {
         Kind::Shapes => (count.min(300), 1),
         _ => (count, CHUNK),
     };
@@ -106,7 +106,7 @@ fn compare(lab: &Lab, name: &str, kind: Kind, count: u64, seed: u64) -> bool {
     let mut number = 0;
     while number < count {
         let end = (number + chunk).min(count);
-        let sessions: Vec<Vec<u8>> = (number..end).map(|n| session(seed, n, kind)).collect();
+        let sessions: Vec<Vec<u8>> = (number..end).map(|n| session(seed, n, plan)).collect();
         let input = sessions.concat();
         let compared = lab.compare(&input);
         if let Some(first) = compared

@@ -15,7 +15,7 @@ pub enum Act {
 
 /// Opens an engine. None if the opening is refused.
 pub fn open(rng: &mut Rng, input: &mut Input) -> Option<World> {
-    let mut opening = opening(rng, true);
+    let mut opening = opening(rng, input.device, true);
     if rng.percent(3) {
         for _ in 0..rng.pick(&[1, 1, 2]) {
             spoil(rng, &mut opening);

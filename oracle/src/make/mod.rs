@@ -13,8 +13,15 @@ mod storage;
 pub use frames::{SEND, cbw, frame, header, meta, shell};
 pub use rng::Rng;
 
-use crate::opening::Opening;
+use crate::opening::{NAND, NOR, Opening};
 use crate::record::*;
+
+/// A kind of sessions, on any device or on one only.
+#[derive(Clone, Copy, Debug)]
+pub struct Plan {
+    pub kind: Kind,
+    pub device: Option<u8>,
+}
 
 /// The kinds of sessions.
 #[derive(Clone, Copy, Debug, PartialEq, Eq)]
@@ -29,23 +36,34 @@ pub enum Kind {
     Shapes,
 }
 
-impl Kind {
+impl Plan {
+    /// A kind's name, with `:nor` or `:nand` behind it for one device.
     pub fn parse(name: &str) -> Option<Self> {
-        Some(match name {
-            "storage" => Self::Storage,
-            "engine" => Self::Engine,
-            "packets" => Self::Packets,
-            "shapes" => Self::Shapes,
+        let (name, device) = match name.split_once(':') {
+            None => (name, None),
+            Some((name, "nor")) => (name, Some(NOR)),
+            Some((name, "nand")) => (name, Some(NAND)),
+            Some(_) => return None,
+        };
+        let kind = match name {
+            "storage" => Kind::Storage,
+            "engine" => Kind::Engine,
+            "packets" => Kind::Packets,
+            "shapes" => Kind::Shapes,
             _ => return None,
-        })
+        };
+        Some(Self { kind, device })
     }
 }
 
 /// The records of one session.
-pub fn session(seed: u64, number: u64, kind: Kind) -> Vec<u8> {
-    let mut rng = Rng::of(&[seed, number, kind as u64]);
-    let mut input = Input::default();
-    fill(&mut rng, kind, &mut input);
+pub fn session(seed: u64, number: u64, plan: Plan) -> Vec<u8> {
+    let mut rng = Rng::of(&[seed, number, plan.kind as u64]);
+    let mut input = Input {
+        device: plan.device,
+        ..Input::default()
+    };
+    fill(&mut rng, plan.kind, &mut input);
     input.bytes
 }
 
@@ -62,6 +80,8 @@ fn fill(rng: &mut Rng, kind: Kind, input: &mut Input) {
 #[derive(Default)]
 pub struct Input {
     pub bytes: Vec<u8>,
+    /// The one device that openings have, if not any.
+    pub device: Option<u8>,
 }
 
 impl Input {

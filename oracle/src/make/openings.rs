@@ -33,10 +33,11 @@ const NAMES: [&str; 16] = [
     "\u{1f600}",
 ];
 
-/// An opening; `engine` says whether the rooms count.
-pub fn opening(rng: &mut Rng, engine: bool) -> Opening {
+/// An opening, of one device or of any; `engine` says whether the rooms count.
+pub fn opening(rng: &mut Rng, device: Option<u8>, engine: bool) -> Opening {
+    let any = rng.pick(&[NOR, NAND]);
     let mut opening = Opening {
-        device: rng.pick(&[NOR, NAND]),
+        device: device.unwrap_or(any),
         boot_stage: rng.pick(&[0, 1, 2, 255]),
         media_dev_id: rng.next() as u32 >> rng.pick(&[0, 16, 31]),
         rooms: [8208, 4112, rng.pick(&[4125, 4126, 5000, 16_384])],

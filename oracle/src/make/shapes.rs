@@ -59,7 +59,7 @@ pub fn session(rng: &mut Rng, input: &mut Input) {
             }
             bytes
         }
-        3 => spoiled_opening(rng),
+        3 => spoiled_opening(rng, input.device),
         // The largest bodies that are taken.
         4 => {
             let (kind, len) = rng.pick(&[(WRITE, 4096), (PACKET, 512), (PUT, 65_544)]);
@@ -80,8 +80,8 @@ pub fn session(rng: &mut Rng, input: &mut Input) {
     input.flush();
 }
 
-fn spoiled_opening(rng: &mut Rng) -> Vec<u8> {
-    let mut opening = opening(rng, true);
+fn spoiled_opening(rng: &mut Rng, device: Option<u8>) -> Vec<u8> {
+    let mut opening = opening(rng, device, true);
     let mut body = match rng.case(&[2, 2, 2, 2, 2, 2]) {
         0 => {
             opening.device = rng.pick(&[2, 3, 255]);

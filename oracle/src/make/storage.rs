@@ -4,7 +4,7 @@ use super::openings::{World, opening, spoil};
 use super::{Input, Rng};
 
 pub fn session(rng: &mut Rng, input: &mut Input) {
-    let mut opening = opening(rng, false);
+    let mut opening = opening(rng, input.device, false);
     if rng.percent(8) {
         for _ in 0..rng.pick(&[1, 1, 2]) {
             spoil(rng, &mut opening);
