@@ -1,5 +1,5 @@
-// Openings: what both `new` of storage.rs do, with 01's refusals 10 to 14 in their order, the tests that a later call makes of a
-// record and of what is lent with it, and the questions of a store.
+// Openings: what both `new` of storage.rs do, with 01's refusals 10 to 14 in their order; the tests
+// that a later call makes of a record and of what is lent with it; and the questions of a store.
 use crate::partition::Table;
 use crate::partition::larger;
 use crate::partition::lists_ok;
