@@ -6,8 +6,6 @@ pub mod Over
 pub mod Programs
 pub mod Sectors
 pub mod Nors
-pub mod Over
-pub mod Programs
 pub mod NandCalls
 pub mod NandKeeps
 pub mod NandSteps
@@ -16,3 +14,4 @@ pub mod Partitions
 pub mod Powers
 pub mod Opens
 pub mod Stores
+pub mod Scratches

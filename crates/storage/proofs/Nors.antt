@@ -162,7 +162,8 @@ module _ (F : List ℕ) (off : ℕ) (room : List ℕ) (d : Dev) {f : Out} (p : f
     unfolding readOut
     read-told z r w = rw (← p, ← q, ← r, ← w, t, ne-eqb n 0 z)
 
-counts : (b c g : Bool) (m n : ℕ) (d e : Dev) (r s : List ℕ) → n ≤ m
+-- what a read counts, by whether its flush, its length and its chip call went well
+pub counts : (b c g : Bool) (m n : ℕ) (d e : Dev) (r s : List ℕ) → n ≤ m
     → (cond b (cond c (seen (told 0 0 d) r) (seen (told 0 (cond g n 0) e) s)) (seen (told 0 0 d) r)) .told .count ≤ m
 counts true true g m n d e r s h = zero-le
 counts true false true m n d e r s h = h

@@ -7,3 +7,4 @@ pub mod Partition
 pub mod Open
 pub mod OpenExamples
 pub mod Store
+pub mod Scratch

@@ -5,5 +5,6 @@ pub mod nand;
 pub mod nor;
 pub mod open;
 pub mod partition;
+pub mod scratch;
 pub mod store;
 pub mod types;
