@@ -1,6 +1,6 @@
 -- What the NAND's buffering keeps of a state: a property that a chip call, another erased block, a freed page, a page begun and a
 -- byte set leave alone is left alone by everything. The shape is such a property.
-use mathlib.Core.Path.{_≡_, refl, sym, ap, _∙_}
+use mathlib.Core.Path.{_≡_, refl, ap, _∙_}
 use mathlib.Core.Bool.{Bool, true, false, cond}
 use mathlib.Core.List.{List}
 use Prim.Native.Nat.{ℕ, _+_, _*_, _/_, _≤_, _<_}
@@ -17,7 +17,7 @@ use Rattle.storage.specs.Chip.{able, called, over}
 use Rattle.storage.specs.Fold.{Run, run, base, writes}
 use Rattle.storage.specs.Nor.{freed, holds}
 use Rattle.storage.specs.Nand.{Shaped, Sound, blockSize, blanks, kept, eraseBlock, programPage, asksGood, remember, isErased, eraseChecked, ready, burns, attempt, orElse, flushes, begins, loads, stays}
-use Rattle.storage.proofs.Chips.{able-fits, part-length}
+use Rattle.storage.proofs.Chips.{able-fits}
 use Rattle.storage.proofs.Over.{length-over}
 use Rattle.storage.proofs.Programs.{Call, programs-call}
 use Rattle.storage.proofs.Along.{writes-along}
