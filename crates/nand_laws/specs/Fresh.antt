@@ -9,13 +9,13 @@ use native.Mathlib.Nat.{mod-eq-of-lt, div-add-mod', div-div-eq-div-mul, div-lt-i
 use native.Mathlib.Omega.{arith}
 use borrow.Author.Tests.{le-leb, eq-eqb}
 use lib.Bits.{bitAnd, and-comm, and-mask}
-use lib.ListN.{length, take, drop, getD, replicate, length-replicate, drop-of-length-le}
+use lib.ListN.{length, take, drop, getD, replicate, length-replicate, getD-replicate, drop-of-length-le}
 use lib.Seq.{length-take-le, take-at, drop-at, drop-drop, take-append-le, drop-append-le}
 use Rattle.text.proofs.Tokens.{same-self}
 use Rattle.storage.specs.declared.types.Shape.{Shape}
 use Rattle.storage.specs.declared.types.Store.{Store}
 use Rattle.storage.specs.declared.types.Erased.the-variants.{Block}
-use Rattle.storage.specs.World.{Lent, Dev, dev, out, told, seen}
+use Rattle.storage.specs.World.{Lent, lent, Dev, dev, out, told, seen}
 use Rattle.storage.specs.Chip.{failing, able, called, over}
 use Rattle.storage.specs.Nor.{freed}
 use Rattle.storage.specs.Nand.{blockSize, blanks, kept, eraseBlock, programPage, asksGood, noting, isErased, eraseChecked, ready, burns, flushes, readOut}
@@ -29,6 +29,11 @@ use Rattle.storage.proofs.NandMoves.{read-told}
 pub record Good (l : Lent) : Type 0 where
   pub quiet : (n : ℕ) → failing (l .faults) n ≡ false
   pub good : (k : ℕ) → k < length (l .marks) → getD (l .marks) k 0 ≡ 255
+
+-- as with no list of faults and marks of 0xFF
+pub good-blank : (n : ℕ) → Good (lent [] (blanks n))
+unfolding failing blanks
+good-blank n = record { quiet = λ k. refl; good = λ k h. getD-replicate {A = ℕ} n k 255 0 (rw (length-replicate {A = ℕ} n 255) at h) }
 
 abbrev pub Bytes : List ℕ → Type 0
 Bytes xs = (i : ℕ) → getD xs i 0 < 256
