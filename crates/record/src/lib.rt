@@ -41,12 +41,6 @@ pub fn read_record(room: &mut [u8]) -> Next
     Next::Record { kind, length }
 }
 
-// The hexadecimal digit of a number's lowest four bits, in lower case.
-pub fn digit(n: u8) -> u8 {
-    let d = n % 16;
-    if d < 10 { 48 + d } else { 87 + d }
-}
-
 // Puts the digits of the bytes from a place on into `out`, as many as it holds, and answers how many
 // bytes that were.
 fn spell(s: &[u8], at: usize, out: &mut [u8]) -> usize
@@ -68,6 +62,12 @@ fn least(a: usize, b: usize) -> usize
     ensures { λ r. ⌜ r ≡ min a b ⌝ }
 {
     if a < b { a } else { b }
+}
+
+// The hexadecimal digit of a number's lowest four bits, in lower case.
+pub fn digit(n: u8) -> u8 {
+    let d = n % 16;
+    if d < 10 { 48 + d } else { 87 + d }
 }
 
 // Prints bytes as hexadecimal digits.

@@ -4,7 +4,13 @@ pub mod Fold
 pub mod Along
 pub mod Over
 pub mod Programs
+pub mod Sectors
+pub mod Nors
 pub mod NandCalls
 pub mod NandKeeps
 pub mod NandSteps
 pub mod NandMoves
+pub mod Partitions
+pub mod Powers
+pub mod Opens
+pub mod Stores

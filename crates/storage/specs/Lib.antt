@@ -4,3 +4,6 @@ pub mod Fold
 pub mod Nor
 pub mod Nand
 pub mod Partition
+pub mod Open
+pub mod OpenExamples
+pub mod Store

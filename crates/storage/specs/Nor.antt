@@ -8,7 +8,7 @@ use lib.ListN.{length, take, drop, replicate}
 use Rattle.storage.specs.declared.types.Store.{Store}
 use Rattle.storage.specs.World.{Dev, dev, Out, out, andThen, Told, told, Seen, seen}
 use Rattle.storage.specs.Chip.{programs, fetched}
-use Rattle.storage.specs.Fold.{Run, run, base, writes}
+use Rattle.storage.specs.Fold.{run, base, writes}
 
 -- ---- the chip
 

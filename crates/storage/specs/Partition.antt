@@ -1,6 +1,6 @@
 -- Partitions: lent lists of offsets, sizes and name lengths, and the names' bytes one behind the other (01, refusal 12 and the
 -- lookup; storage.rs `Partition`).
-use mathlib.Core.Bool.{Bool, true, false, _&&_, cond}
+use mathlib.Core.Bool.{Bool, true, _&&_, cond}
 use mathlib.Core.List.{List, [], _∷_}
 use Prim.Native.Nat.{ℕ, _+_, _^_, max}
 use lib.Dec.{leb, eqb}
@@ -10,6 +10,8 @@ use Rattle.text.specs.Trim.{trim}
 use Rattle.text.specs.Token.{until, same}
 use Rattle.storage.specs.declared.partition.Found.{Found}
 use Rattle.storage.specs.declared.partition.Found.the-variants.{At, Nothing, Refused}
+use Rattle.storage.specs.declared.partition.Table.{Table}
+use Rattle.storage.specs.declared.partition.Table.the-variants.{Bad, Ends}
 
 -- the lists as they are lent
 pub record Lists : Type 0 where
@@ -68,6 +70,17 @@ unfoldable pub tableEnd : List Part → ℕ
 tableEnd [] = 0
 tableEnd (p ∷ ps) = max (p .offset + p .size) (tableEnd ps)
 
+-- the largest end of the lists' partitions; 0 for lists that are refused
+unfoldable pub endOf : Lists → ℕ
+endOf l = cond (listsOk l) (tableEnd (parts l)) 0
+
+-- the test and the largest end as the code's one answer: of a partition, and of the lists
+unfoldable pub partEnd : Part → Table
+partEnd p = cond (partOk p) (Ends (p .offset + p .size)) Bad
+
+unfoldable pub tableOf : Lists → Table
+tableOf l = cond (listsOk l) (Ends (tableEnd (parts l))) Bad
+
 -- the first partition of a name
 unfoldable pub find : List ℕ → List Part → Found
 find name [] = Nothing
@@ -77,6 +90,12 @@ find name (p ∷ ps) = cond (same (p .name) name) (At (p .offset)) (find name ps
 unfoldable pub wanted : List ℕ → List ℕ
 wanted name = trim (until 0x3B name)
 
--- where a named partition starts; a name that is not UTF-8 has none
+-- where a named partition starts; a text that is not UTF-8 names none
 unfoldable pub lookup : Lists → List ℕ → Found
 lookup l name = cond (listsOk l) (cond (isUtf8 name) (find (wanted name) (parts l)) Nothing) Refused
+
+-- 01's number of a lookup's answer: done, failed, refused
+abbrev pub foundNumber : Found → ℕ
+foundNumber (At o) = 0
+foundNumber Nothing = 1
+foundNumber Refused = 9

@@ -2,5 +2,8 @@
 pub mod buffering;
 pub mod chip;
 pub mod nand;
+pub mod nor;
+pub mod open;
 pub mod partition;
+pub mod store;
 pub mod types;

@@ -12,7 +12,9 @@ rem-if1 : tie.Need-rem-if1
 rem-if1 c = search needs
 
 add-result : tie.Need-add-result
-add-result c = omega (arith, count-fits (c .before .args .n) (c .before .args .page) (c .before .pre) (c .if1 .left))
+add-result c =
+    let z = c .before .args in
+    omega (arith, count-fits (z .n) (z .page) (c .before .pre) (c .if1 .left))
 
 returns : tie.Need-returns
 returns c = search needs

@@ -1,0 +1,5 @@
+pub mod Kept
+pub mod View
+pub mod Stream
+pub mod Full
+pub mod Whole

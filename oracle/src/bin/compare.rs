@@ -1,0 +1,374 @@
+//! Compares the lab program with the Rust over generated sessions.
+//!
+//!     LAB=PROGRAM KINDS='storage engine packets' compare COUNT SEED FOLDER
+//!
+//! COUNT sessions of each kind; FOLDER takes the inputs and outputs of the moment. Exit status 0
+//! without a difference, 1 with one, 2 if the lab program can't be run.
+
+use std::collections::BTreeMap;
+use std::fs::{self, File};
+use std::path::PathBuf;
+use std::process::{Command, Stdio, exit};
+use std::thread::sleep;
+use std::time::{Duration, Instant};
+
+use harness::make::{Kind, Plan, session};
+use harness::record::{Next, OPEN_ENGINE, OPEN_STORAGE, Reader};
+use harness::run::{Options, check_build, push_hex, run};
+
+/// Sessions that share one run.
+const CHUNK: u64 = 1000;
+/// The lab program is ended after so many seconds.
+const PATIENCE: u64 = 120;
+
+/// The lab program and where its input and output go.
+struct Lab {
+    program: PathBuf,
+    folder: PathBuf,
+}
+
+/// What one session came to.
+enum Outcome {
+    Same,
+    /// The same up to where the Rust panics.
+    Panic,
+    Skip(String),
+    Different,
+}
+
+/// One session of a run: its records, and the lines of both sides.
+struct Compared<'a> {
+    records: Vec<&'a [u8]>,
+    ours: Vec<String>,
+    theirs: Vec<String>,
+    outcome: Outcome,
+}
+
+/// Counts over all sessions of a kind.
+#[derive(Default)]
+struct Counts {
+    sessions: u64,
+    whole: u64,
+    panics: u64,
+    skips: BTreeMap<String, u64>,
+    lines: u64,
+    words: BTreeMap<String, u64>,
+}
+
+fn main() {
+    let arguments: Vec<String> = std::env::args().skip(1).collect();
+    let numbers = match arguments.as_slice() {
+        [count, seed, folder] => count
+            .parse::<u64>()
+            .ok()
+            .zip(seed.parse::<u64>().ok())
+            .zip(Some(folder)),
+        _ => None,
+    };
+    let Some(((count, seed), folder)) = numbers else {
+        eprintln!("usage: LAB=PROGRAM KINDS='storage engine packets' compare COUNT SEED FOLDER");
+        exit(2);
+    };
+    let variable = |name: &str, default: &str| std::env::var(name).unwrap_or(default.to_string());
+    let kinds = variable("KINDS", "storage engine packets");
+    let lab = Lab {
+        program: variable("LAB", "target/bin/lab").into(),
+        folder: folder.into(),
+    };
+    if !lab.program.is_file() {
+        eprintln!("compare: no lab program at {}", lab.program.display());
+        exit(2);
+    }
+    fs::create_dir_all(&lab.folder).expect("the folder for inputs and outputs");
+    check_build();
+    println!("seed {seed}");
+    for name in kinds.split_whitespace() {
+        let Some(plan) = Plan::parse(name) else {
+            eprintln!("compare: there is no kind {name}");
+            exit(2);
+        };
+        if !compare(&lab, name, plan, count, seed) {
+            exit(1);
+        }
+    }
+    println!("no difference");
+}
+
+/// All sessions of a kind. False after a difference.
+fn compare(lab: &Lab, name: &str, plan: Plan, count: u64, seed: u64) -> bool {
+    let start = Instant::now();
+    // A session of this kind ends the run, and starting the program takes its time.
+    let (count, chunk) = match plan.kind {
+        Kind::Shapes => (count.min(300), 1),
+        _ => (count, CHUNK),
+    };
+    let mut counts = Counts::default();
+    let mut number = 0;
+    while number < count {
+        let end = (number + chunk).min(count);
+        let sessions: Vec<Vec<u8>> = (number..end).map(|n| session(seed, n, plan)).collect();
+        let input = sessions.concat();
+        let compared = lab.compare(&input);
+        if let Some(first) = compared
+            .iter()
+            .position(|c| matches!(c.outcome, Outcome::Different))
+        {
+            println!("{name}: session {} differs", number + first as u64);
+            explain(lab, &compared, first);
+            println!("seed {seed}");
+            return false;
+        }
+        for session in &compared {
+            counts.add(session);
+        }
+        number = end;
+        if chunk > 1 || number == count {
+            eprintln!(
+                "compare: {name} {number} of {count}, {:.1} s",
+                start.elapsed().as_secs_f64()
+            );
+        }
+    }
+    counts.print(name, start.elapsed().as_secs_f64());
+    true
+}
+
+impl Counts {
+    fn add(&mut self, session: &Compared<'_>) {
+        self.sessions += 1;
+        match &session.outcome {
+            Outcome::Skip(why) => {
+                *self.skips.entry(why.clone()).or_default() += 1;
+                return;
+            }
+            Outcome::Panic => self.panics += 1,
+            _ => self.whole += 1,
+        }
+        for line in &session.ours {
+            self.lines += 1;
+            let mut words = line.split(' ').skip(1);
+            let mut word = words.next().unwrap_or("").to_string();
+            if matches!(
+                word.as_str(),
+                "open" | "write" | "flush" | "erase" | "flags"
+            ) {
+                for more in words {
+                    word = format!("{word} {more}");
+                }
+            }
+            *self.words.entry(word).or_default() += 1;
+        }
+    }
+
+    fn print(&self, name: &str, seconds: f64) {
+        let list = |counts: &BTreeMap<String, u64>| {
+            let pairs: Vec<String> = counts
+                .iter()
+                .map(|(word, n)| format!("{word}: {n}"))
+                .collect();
+            pairs.join(", ")
+        };
+        let skipped: u64 = self.skips.values().sum();
+        println!(
+            "{name}: {} sessions in {seconds:.1} s; {} compared whole, {} up to a panic of the Rust, {skipped} skipped{}",
+            self.sessions,
+            self.whole,
+            self.panics,
+            match self.skips.is_empty() {
+                true => String::new(),
+                false => format!(" ({})", list(&self.skips)),
+            },
+        );
+        println!("{name}: {} lines ({})", self.lines, list(&self.words));
+    }
+}
+
+impl Lab {
+    /// The lab program's output. What it printed before it failed or was ended counts too.
+    fn output(&self, input: &[u8]) -> String {
+        let (stdin, stdout) = (self.folder.join("input"), self.folder.join("output"));
+        fs::write(&stdin, input).expect("the input for the lab program");
+        let output = File::create(&stdout).expect("the output of the lab program");
+        let mut child = Command::new(&self.program)
+            .stdin(File::open(&stdin).expect("the input for the lab program"))
+            .stdout(output)
+            .stderr(Stdio::null())
+            .spawn()
+            .unwrap_or_else(|error| {
+                eprintln!("compare: {}: {error}", self.program.display());
+                exit(2);
+            });
+        let start = Instant::now();
+        let mut pause = 1;
+        while child.try_wait().expect("the lab program").is_none() {
+            if start.elapsed().as_secs() >= PATIENCE {
+                eprintln!("compare: the lab program took over {PATIENCE} s and was ended");
+                child.kill().expect("the lab program");
+                child.wait().expect("the lab program");
+                break;
+            }
+            sleep(Duration::from_millis(pause));
+            pause = (pause * 2).min(50);
+        }
+        let bytes = fs::read(&stdout).expect("the output of the lab program");
+        String::from_utf8_lossy(&bytes).into_owned()
+    }
+
+    /// Runs both sides and splits records and lines by openings.
+    fn compare<'a>(&self, input: &'a [u8]) -> Vec<Compared<'a>> {
+        let theirs = self.output(input);
+        let mut ours = vec![];
+        run(input, Options { figure: true }, &mut ours);
+        let ours = String::from_utf8(ours).expect("lines");
+
+        let (records, starts) = split(input);
+        let mut sessions: Vec<Compared<'a>> = starts
+            .iter()
+            .enumerate()
+            .map(|(i, &start)| Compared {
+                records: records[start..*starts.get(i + 1).unwrap_or(&records.len())].to_vec(),
+                ours: vec![],
+                theirs: vec![],
+                outcome: Outcome::Same,
+            })
+            .collect();
+        let mut place = |lines: &str, ours: bool| {
+            let mut at = 0;
+            for line in lines.lines() {
+                let number = line.split(' ').next().and_then(|n| n.parse::<usize>().ok());
+                // A line without a number goes where the last one went.
+                if let Some(number) = number {
+                    at = starts.partition_point(|&start| start <= number).max(1) - 1;
+                }
+                let session = &mut sessions[at];
+                let to = match ours {
+                    true => &mut session.ours,
+                    false => &mut session.theirs,
+                };
+                to.push(line.to_string());
+            }
+        };
+        if !starts.is_empty() {
+            place(&ours, true);
+            place(&theirs, false);
+        }
+        for session in &mut sessions {
+            session.outcome = outcome(&session.ours, &session.theirs);
+        }
+        sessions
+    }
+
+    fn differs(&self, input: &[u8]) -> bool {
+        self.compare(input)
+            .iter()
+            .any(|session| matches!(session.outcome, Outcome::Different))
+    }
+}
+
+/// The records of an input as bytes, a malformed rest as one, and where each opening stands. The
+/// records before the first opening go with it.
+fn split(input: &[u8]) -> (Vec<&[u8]>, Vec<usize>) {
+    let mut reader = Reader::new(input);
+    let (mut records, mut starts) = (vec![], vec![]);
+    let mut place = 0;
+    while let Next::Record(record) = reader.next() {
+        if matches!(record.kind, OPEN_STORAGE | OPEN_ENGINE) || starts.is_empty() {
+            starts.push(records.len());
+        }
+        let end = place + 6 + record.body.len();
+        records.push(&input[place..end]);
+        place = end;
+    }
+    if place < input.len() {
+        if starts.is_empty() {
+            starts.push(0);
+        }
+        records.push(&input[place..]);
+    }
+    (records, starts)
+}
+
+/// Compares the lines of one session.
+fn outcome(ours: &[String], theirs: &[String]) -> Outcome {
+    let said = |line: &String, word: &str| line.split(' ').nth(1) == Some(word);
+    if let Some(line) = ours.iter().find(|line| said(line, "skip")) {
+        let why = line.split(' ').nth(2).unwrap_or("");
+        return Outcome::Skip(why.to_string());
+    }
+    if let Some(end) = ours.iter().position(|line| said(line, "panic")) {
+        return match theirs.get(..end) {
+            Some(theirs) if theirs == &ours[..end] => Outcome::Panic,
+            _ => Outcome::Different,
+        };
+    }
+    match ours == theirs {
+        true => Outcome::Same,
+        false => Outcome::Different,
+    }
+}
+
+/// Shrinks the first session that differs and prints it with both outputs.
+fn explain(lab: &Lab, compared: &[Compared<'_>], first: usize) {
+    let mut records: Vec<Vec<u8>> = compared[first].records.iter().map(|r| r.to_vec()).collect();
+    if !lab.differs(&records.concat()) {
+        // It takes the sessions before it: drop as many of those as go.
+        println!("alone it does not differ; shown with what it needs before it");
+        let mut sessions: Vec<Vec<u8>> = compared[..=first]
+            .iter()
+            .map(|session| session.records.concat())
+            .collect();
+        shrink(&mut sessions, 0, &|sessions| {
+            lab.differs(&sessions.concat())
+        });
+        let input = sessions.concat();
+        records = split(&input).0.iter().map(|r| r.to_vec()).collect();
+    }
+    let before = records.len();
+    shrink(&mut records, 1, &|records| lab.differs(&records.concat()));
+    let input = records.concat();
+    println!("{before} records, shrunk to {}:", records.len());
+    for (number, record) in records.iter().enumerate() {
+        let mut line = String::new();
+        push_hex(&mut line, record);
+        println!("  {number}: {line}");
+    }
+    for session in lab.compare(&input) {
+        println!("the Rust:");
+        print_lines(&session.ours);
+        println!("the lab program:");
+        print_lines(&session.theirs);
+    }
+    let file = lab.folder.join("difference");
+    fs::write(&file, &input).expect("the input that differs");
+    println!("input kept as {}", file.display());
+}
+
+fn print_lines(lines: &[String]) {
+    for line in lines {
+        println!("  {line}");
+    }
+}
+
+/// Drops items, many at a time and then one by one, while `holds`; the first `keep` stay.
+fn shrink(items: &mut Vec<Vec<u8>>, keep: usize, holds: &dyn Fn(&[Vec<u8>]) -> bool) {
+    let mut size = items.len().saturating_sub(keep).max(1);
+    loop {
+        let mut dropped = false;
+        // From the end: what stands behind the difference goes first.
+        let mut end = items.len();
+        while end > keep {
+            let start = end.saturating_sub(size).max(keep);
+            let mut fewer = items.clone();
+            fewer.drain(start..end);
+            if holds(&fewer) {
+                *items = fewer;
+                dropped = true;
+            }
+            end = start;
+        }
+        if size == 1 && !dropped {
+            return;
+        }
+        size = (size / 2).max(1);
+    }
+}

@@ -1,0 +1,42 @@
+//! Generated sessions are all answered, and the same each time. With the feature `peek` the held
+//! address is checked against the storage's private fields after every call.
+
+use harness::make::{Plan, session};
+use harness::record::{Next, Reader};
+use harness::run::{Options, run};
+
+#[test]
+fn every_record_is_answered() {
+    for name in ["storage", "engine", "packets", "storage:nor", "engine:nand"] {
+        let plan = Plan::parse(name).unwrap();
+        for number in 0..300 {
+            let input = session(3, number, plan);
+            assert_eq!(input, session(3, number, plan));
+            let mut out = vec![];
+            let tally = run(&input, Options { figure: true }, &mut out);
+            assert!(tally.skips.is_empty(), "{name} {number}: skipped");
+            assert_eq!(tally.openings, 1, "{name} {number}");
+            let lines = String::from_utf8(out).unwrap();
+            assert!(!lines.contains(" bad"), "{name} {number}: {lines}");
+            if tally.panics.is_empty() {
+                answered(&input, &lines);
+            }
+        }
+    }
+}
+
+/// The line numbers go from 0 to the last record without a gap.
+fn answered(input: &[u8], lines: &str) {
+    let mut reader = Reader::new(input);
+    let mut count = 0;
+    while let Next::Record(_) = reader.next() {
+        count += 1;
+    }
+    let mut next = 0;
+    for line in lines.lines() {
+        let number: u64 = line.split(' ').next().unwrap().parse().unwrap();
+        assert!(number == next || number + 1 == next && line.contains(" in "));
+        next = number + 1;
+    }
+    assert_eq!(next, count);
+}
