@@ -1,6 +1,6 @@
 -- Laws of the NAND chip's calls: a page program byte by byte from the front, a call that set a part of the chip, and a block's
 -- place.
-use mathlib.Core.Path.{_≡_, refl, sym, ap, _∙_}
+use mathlib.Core.Path.{_≡_, refl, ap, _∙_}
 use mathlib.Core.Bool.{Bool, true, false}
 use mathlib.Core.List.{List, [], _∷_}
 use Prim.Native.Nat.{ℕ, zero, suc, _+_, _-_, _<_, _≤_}
@@ -10,7 +10,7 @@ use native.Mathlib.Omega.{arith}
 use borrow.Rule.Slice.PartMut.{putMid}
 use lib.Bits.{bitAnd}
 use lib.Dec.{eqb}
-use lib.ListN.{length, take, drop, set, getD, replicate, length-replicate}
+use lib.ListN.{length, take, drop, set, getD, replicate, length-replicate, length-take, length-drop}
 use Rattle.text.specs.Token.{same}
 use Rattle.storage.specs.declared.types.Store.{Store}
 use Rattle.storage.specs.World.{Lent, dev, out}
@@ -57,6 +57,10 @@ length-kept [] new = refl
 length-kept (x ∷ old) [] = refl
 length-kept (x ∷ old) (y ∷ new) = ap suc (length-kept old new)
 
+-- as many bytes as are programmed, where they lie within the chip
+pub length-page : (a : ℕ) (xs l : List ℕ) → a + length xs ≤ length l → length (kept (take (length xs) (drop a l)) xs) ≡ length xs
+length-page a xs l h = length-kept (take (length xs) (drop a l)) xs ∙ simp (length-take, length-drop) (omega arith)
+
 -- ---- the calls, case by case, as the code goes
 
 module _ (l : Lent) (k : ℕ) (s : Store) (c b : List ℕ) {st : Store} (q : st ≡ called s) where
@@ -80,9 +84,7 @@ module _ (F : List ℕ) (s : Store) (chip : List ℕ) (a : ℕ) (xs b : List ℕ
   unfolding programPage over
   page-part e t f p u v =
       let k : e - a ≡ length xs = omega arith in
-      let n : length (kept (take (e - a) (drop a chip)) xs) ≡ length xs = length-kept (take (e - a) (drop a chip)) xs ∙ part-length a e (length xs) chip p f in
-      let m : length (kept (take (length xs) (drop a chip)) xs) ≡ length xs = ap (λ (j : ℕ). length (kept (take j (drop a chip)) xs)) (sym k) ∙ n in
-      rw (q, t, u, v, k, m)
+      rw (q, t, u, v, k, length-page a xs chip f)
 
 -- ---- a block of 0xFF
 
