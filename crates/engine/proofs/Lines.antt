@@ -1,10 +1,10 @@
 -- Laws of shell lines: tests that are tried one after another, and the tokens of a line by the places where they start.
 use mathlib.Core.Path.{_≡_, refl, sym, ap, _∙_}
-use mathlib.Core.Bool.{Bool, true, false, _||_, cond}
-use mathlib.Core.List.{List, [], _∷_}
+use mathlib.Core.Bool.{Bool, true, false, cond}
+use mathlib.Core.List.{List}
 use Prim.Native.Nat.{ℕ}
 use lib.ListN.{drop}
-use Rattle.text.specs.Token.{until, placeAfter, tokensOf, restOf}
+use Rattle.text.specs.Token.{until, placeAfter, restOf}
 use Rattle.text.specs.Number.{numberIn}
 use Rattle.text.proofs.Tokens.{tokens-from}
 use Rattle.text.specs.declared.number.Number.{Number}
@@ -61,12 +61,15 @@ module _ (s : List ℕ) where
     next-good h k = k ∙ ap (onNext f) (sym h ∙ e) ∙ sym (next-is f p)
 
   -- what follows the id goes on from the place behind it
-  pub id-past : (p : Place) (f : ℕ → List (List ℕ) → Line) → withNumber f (restOf s (idPast s p)) ≡ withId (withNumber f) (restOf s p)
+  pub id-past : (p : Place) (f : ℕ → List (List ℕ) → Line) {q : Place} → q ≡ idPast s p → withNumber f (restOf s q) ≡ withId (withNumber f) (restOf s p)
   unfolding withNumber withId restOf idPast
-  id-past place.Done f = refl
-  id-past (place.At p) f = sym (ap (withId (withNumber f)) (tokens-from s p))
+  id-past p f e = ap (λ (r : Place). withNumber f (restOf s r)) e ∙ go p
+    where
+      go : (p : Place) → withNumber f (restOf s (idPast s p)) ≡ withId (withNumber f) (restOf s p)
+      go place.Done = refl
+      go (place.At p) = sym (ap (withId (withNumber f)) (tokens-from s p))
 
-  -- the command word is the token at the start, and its numbers follow
-  pub line-is : {w : Word} {p : Place} {t : List ℕ} → t ≡ until 0x20 s → w ≡ wordOf t → p ≡ placeAfter s 0 → asked w (restOf s p) ≡ lineOf s
+  -- the command word v is the token at the start, and what it asks for follows
+  pub line-is : {t : List ℕ} {w v : Word} {p : Place} → t ≡ until 0x20 s → w ≡ wordOf t → p ≡ placeAfter s 0 → w ≡ v → asked v (restOf s p) ≡ lineOf s
   unfolding lineOf
-  line-is a b d = rw (b, a, d) (sym (ap command (tokens-from s 0)))
+  line-is a b d e = rw (← e, b, a, d) (sym (ap command (tokens-from s 0)))

@@ -1,15 +1,15 @@
 -- Laws of the device table: the name's address, the cases of the name, and that the table is as long as its room.
-use mathlib.Core.Path.{_≡_, refl, sym, ap, ap₂, _∙_}
+use mathlib.Core.Path.{_≡_, refl, ap, ap₂, _∙_}
 use mathlib.Core.Bool.{Bool, true, false, cond}
 use mathlib.Core.List.{List}
 use Prim.Native.Nat.{ℕ, _+_, _%_, _^_, _≤_, _<_}
 use native.Mathlib.Nat.{mod-add-mod}
 use borrow.Author.Tests.{le-leb, lt-leb}
 use lib.Dec.{leb}
-use lib.ListN.{length, replicate, length-replicate}
+use lib.ListN.{length, length-replicate}
 use lib.Seq.{sets, length-sets}
 use Rattle.text.specs.Token.{ascii}
-use Rattle.wire.specs.Bytes.{bytesOf, laid}
+use Rattle.wire.specs.Bytes.{laid}
 use Rattle.engine.specs.Shell.{putWord, bootWords, bootName, bootTable}
 
 laid-length : (s : List ℕ) (at : ℕ) (xs : List ℕ) → length (laid s at xs) ≡ length s

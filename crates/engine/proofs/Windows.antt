@@ -1,6 +1,6 @@
 -- Laws of the line of a payload and of the part of scratch that an address and a length name. Each answer that names a part names
 -- one that is there.
-use mathlib.Core.Path.{_≡_, refl, sym, ap, ap₂, _∙_}
+use mathlib.Core.Path.{_≡_, refl, sym, ap, _∙_}
 use mathlib.Core.Bool.{Bool, true, false, _&&_, cond}
 use mathlib.Core.List.{List}
 use Prim.Native.Nat.{ℕ, _+_, _-_, _≤_, _<_, min}
@@ -11,9 +11,7 @@ use lib.ListN.{length, take, drop}
 use Rattle.text.specs.Utf8.{isUtf8}
 use Rattle.wire.specs.Bytes.{wordAt}
 use Rattle.engine.specs.Shell.{textOf, windowOf}
-use Rattle.engine.specs.declared.shell.Text.{Text}
 use Rattle.engine.specs.declared.shell.Text.the-variants as text
-use Rattle.engine.specs.declared.shell.Window.{Window}
 use Rattle.engine.specs.declared.shell.Window.the-variants as window
 
 -- ---- the line of a payload

@@ -6,7 +6,7 @@ use Prim.Native.Nat.{ℕ, _+_, _-_, _%_, _^_, min}
 use lib.Dec.{leb, ltb}
 use lib.ListN.{length, take, drop, replicate}
 use Rattle.text.specs.Utf8.{anyOf, isUtf8}
-use Rattle.text.specs.Token.{until, placeAfter, tokensOf, restOf, ascii, startsWith, same}
+use Rattle.text.specs.Token.{until, placeAfter, tokensOf, ascii, startsWith, same}
 use Rattle.text.specs.Number.{numberIn}
 use Rattle.text.specs.declared.number.Number.{Number}
 use Rattle.text.specs.declared.number.Number.the-variants as number

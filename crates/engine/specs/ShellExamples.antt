@@ -2,9 +2,8 @@
 -- edges of scratch, a device table with and without room for its name.
 use mathlib.Core.Path.{_≡_, refl}
 use mathlib.Core.Bool.{true, false}
-use mathlib.Core.List.{List, [], _∷_, _++_}
-use Prim.Native.Nat.{ℕ, _+_}
-use lib.ListN.{replicate, take, drop}
+use mathlib.Core.List.{[], _∷_, _++_}
+use lib.ListN.{replicate}
 use Rattle.text.specs.Utf8.{begins, anyOf, utf8-1, utf8-2, utf8-3, utf8-4, utf8-char, firstOf, charLen, octets, isUtf8}
 use Rattle.text.specs.Trim.{whiteSpace, codePoint, blankLen, lead, trimStart, keep, trimEnd, trim}
 use Rattle.text.specs.Number.{digitOf, digits, some, signed, isHex, numeral, numberIn}

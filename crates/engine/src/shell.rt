@@ -12,7 +12,7 @@ use wire::bytes::le4;
 use wire::bytes::put;
 use wire::bytes::u32_at;
 ghost use mathlib.Core.Path.{_≡_};
-ghost use Prim.Native.Nat.{ℕ, _%_, _^_, min};
+ghost use Prim.Native.Nat.{ℕ, min};
 ghost use Rattle.text.specs.Utf8.{anyOf};
 ghost use Rattle.text.specs.Token.{same, restOf};
 ghost use Rattle.wire.specs.Bytes.{laid, bytesOf};

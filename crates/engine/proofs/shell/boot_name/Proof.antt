@@ -1,12 +1,11 @@
 -- Where the name does not fit nothing is touched; else it is laid, and its address behind it.
-use denote.Ref.{now}
 use Rattle.engine.proofs.Tables.{name-none, name-put}
 use borrow.Author.Needs.{needs}
 use Rattle.engine.proofs.shell.boot_name.Statement.{statement}
 use Rattle.engine.proofs.shell.boot_name.Tie as tie
 
 returns : tie.Need-returns
-returns c = name-none (c .before .before .args .base) (c .before .before .args .place) (now (c .before .before .args .s)) (c .if1 .taken)
+returns c = name-none _ _ _ (c .if1 .taken)
 
 slice-aggregate-put : tie.Need-slice-aggregate-put
 slice-aggregate-put c = search needs
@@ -27,7 +26,7 @@ same-length : tie.Need-same-length
 same-length c = search needs
 
 returns-2 : tie.Need-returns-2
-returns-2 c = name-put (c .before .before .before .before .before .before .before .before .before .before .before .before .before .args .base) (c .before .before .before .before .before .before .before .before .before .before .before .before .before .args .place) (now (c .before .before .before .before .before .before .before .before .before .before .before .before .before .args .s)) (c .before .before .before .before .before .before .before .before .before .before .before .if1 .left) (c .before .before .before .before .before .wrapping-add-u32 .ensures) (c .before .before .before .wrapping-add-u322 .ensures) (c .before .before .before .before .before .before .before .before .put .ensures) (c .before .before .put-word .ensures)
+returns-2 c = name-put _ _ _ (c .before .before .before .before .before .before .before .before .before .before .before .if1 .left) (c .before .before .before .before .before .wrapping-add-u32 .ensures) (c .before .before .before .wrapping-add-u322 .ensures) (c .before .before .before .before .before .before .before .before .put .ensures) (c .before .before .put-word .ensures)
 
 pub boot-name-spec : {M : Type 1} → statement M
 boot-name-spec =

@@ -1,9 +1,6 @@
 -- The first token is the command word, and its numbers follow from the next place on. In each arm the answer is what the word asks
 -- for over the tokens from there, which the law `line-is` carries to the whole line; `id-past` passes the id.
-use mathlib.Core.Path.{sym, ap, _∙_}
-use denote.Ref.{now}
-use Rattle.text.specs.Token.{restOf}
-use Rattle.engine.specs.Shell.{asked, eraseOf, writeOf, readOf, bootOf}
+use mathlib.Core.Path.{_∙_}
 use Rattle.engine.proofs.Lines.{id-past, line-is}
 use borrow.Author.Needs.{needs}
 use Rattle.engine.proofs.shell.parse.Statement.{statement}
@@ -58,22 +55,22 @@ boot-from-requires : tie.Need-boot-from-requires
 boot-from-requires c κs = search needs
 
 returns : tie.Need-returns
-returns c = ap (λ w. asked w (restOf (now (c .before .before .before .before .before .before .args .line)) (c .before .before .place-after .result))) (sym (c .enum-told .given .1)) ∙ line-is (now (c .before .before .before .before .before .before .args .line)) (c .before .before .before .before .token .ensures) (c .before .before .before .word-of .ensures) (c .before .before .place-after .ensures)
+returns c = line-is _ (c .before .before .before .before .token .ensures) (c .before .before .before .word-of .ensures) (c .before .before .place-after .ensures) (c .enum-told .given .1)
 
 returns-2 : tie.Need-returns-2
-returns-2 c = ap (λ w. asked w (restOf (now (c .before .before .before .before .before .before .args .line)) (c .before .before .place-after .result))) (sym (c .enum-told2 .given .1)) ∙ line-is (now (c .before .before .before .before .before .before .args .line)) (c .before .before .before .before .token .ensures) (c .before .before .before .word-of .ensures) (c .before .before .place-after .ensures)
+returns-2 c = line-is _ (c .before .before .before .before .token .ensures) (c .before .before .before .word-of .ensures) (c .before .before .place-after .ensures) (c .enum-told2 .given .1)
 
 returns-3 : tie.Need-returns-3
-returns-3 c = c .erase-from .ensures ∙ ap (λ p. eraseOf (restOf (now (c .before .before .before .before .before .before .before .before .args .line)) p)) (c .before .past-id .ensures) ∙ id-past (now (c .before .before .before .before .before .before .before .before .args .line)) (c .before .before .before .before .place-after .result) _ ∙ ap (λ w. asked w (restOf (now (c .before .before .before .before .before .before .before .before .args .line)) (c .before .before .before .before .place-after .result))) (sym (c .before .before .enum-told3 .given .1)) ∙ line-is (now (c .before .before .before .before .before .before .before .before .args .line)) (c .before .before .before .before .before .before .token .ensures) (c .before .before .before .before .before .word-of .ensures) (c .before .before .before .before .place-after .ensures)
+returns-3 c = c .erase-from .ensures ∙ id-past _ _ _ (c .before .past-id .ensures) ∙ line-is _ (c .before .before .before .before .before .before .token .ensures) (c .before .before .before .before .before .word-of .ensures) (c .before .before .before .before .place-after .ensures) (c .before .before .enum-told3 .given .1)
 
 returns-4 : tie.Need-returns-4
-returns-4 c = c .write-from .ensures ∙ ap (λ p. writeOf (restOf (now (c .before .before .before .before .before .before .before .before .args .line)) p)) (c .before .past-id2 .ensures) ∙ id-past (now (c .before .before .before .before .before .before .before .before .args .line)) (c .before .before .before .before .place-after .result) _ ∙ ap (λ w. asked w (restOf (now (c .before .before .before .before .before .before .before .before .args .line)) (c .before .before .before .before .place-after .result))) (sym (c .before .before .enum-told4 .given .1)) ∙ line-is (now (c .before .before .before .before .before .before .before .before .args .line)) (c .before .before .before .before .before .before .token .ensures) (c .before .before .before .before .before .word-of .ensures) (c .before .before .before .before .place-after .ensures)
+returns-4 c = c .write-from .ensures ∙ id-past _ _ _ (c .before .past-id2 .ensures) ∙ line-is _ (c .before .before .before .before .before .before .token .ensures) (c .before .before .before .before .before .word-of .ensures) (c .before .before .before .before .place-after .ensures) (c .before .before .enum-told4 .given .1)
 
 returns-5 : tie.Need-returns-5
-returns-5 c = c .read-from .ensures ∙ ap (λ p. readOf (restOf (now (c .before .before .before .before .before .before .before .before .args .line)) p)) (c .before .past-id3 .ensures) ∙ id-past (now (c .before .before .before .before .before .before .before .before .args .line)) (c .before .before .before .before .place-after .result) _ ∙ ap (λ w. asked w (restOf (now (c .before .before .before .before .before .before .before .before .args .line)) (c .before .before .before .before .place-after .result))) (sym (c .before .before .enum-told5 .given .1)) ∙ line-is (now (c .before .before .before .before .before .before .before .before .args .line)) (c .before .before .before .before .before .before .token .ensures) (c .before .before .before .before .before .word-of .ensures) (c .before .before .before .before .place-after .ensures)
+returns-5 c = c .read-from .ensures ∙ id-past _ _ _ (c .before .past-id3 .ensures) ∙ line-is _ (c .before .before .before .before .before .before .token .ensures) (c .before .before .before .before .before .word-of .ensures) (c .before .before .before .before .place-after .ensures) (c .before .before .enum-told5 .given .1)
 
 returns-6 : tie.Need-returns-6
-returns-6 c = c .boot-from .ensures ∙ ap (λ w. asked w (restOf (now (c .before .before .before .before .before .before .before .args .line)) (c .before .before .before .place-after .result))) (sym (c .before .enum-told6 .given .1)) ∙ line-is (now (c .before .before .before .before .before .before .before .args .line)) (c .before .before .before .before .before .token .ensures) (c .before .before .before .before .word-of .ensures) (c .before .before .before .place-after .ensures)
+returns-6 c = c .boot-from .ensures ∙ line-is _ (c .before .before .before .before .before .token .ensures) (c .before .before .before .before .word-of .ensures) (c .before .before .before .place-after .ensures) (c .before .enum-told6 .given .1)
 
 pub parse-spec : {M : Type 1} → statement M
 parse-spec =

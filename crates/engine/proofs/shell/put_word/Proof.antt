@@ -1,7 +1,5 @@
 -- The four bytes of the word are laid over the room.
 use mathlib.Core.Path.{ap, _∙_}
-use mathlib.Core.List.{List}
-use Prim.Native.Nat.{ℕ}
 use denote.Ref.{now}
 use Rattle.wire.specs.Bytes.{laid}
 use borrow.Author.Needs.{needs}
