@@ -1,6 +1,6 @@
 -- The storage shell on values (01, 'Shell'; shell.rs, and `shell_line` of protocol.rs): the line of a payload, what a line asks
 -- for, the part of scratch that an address and a length name, and the device table of `get_bootdevice`.
-use mathlib.Core.Bool.{Bool, _&&_, _||_, cond}
+use mathlib.Core.Bool.{Bool, false, _&&_, _||_, cond}
 use mathlib.Core.List.{List, [], _∷_}
 use Prim.Native.Nat.{ℕ, _+_, _-_, _%_, _^_, min}
 use lib.Dec.{leb, ltb}
@@ -41,7 +41,7 @@ isWrite s = startsWith s (ascii "bderase") || startsWith s (ascii "bdwrite")
 
 -- a line whose first token is `reset`
 abbrev pub isFirst : List ℕ → List (List ℕ) → Bool
-isFirst w [] = same [] w
+isFirst w [] = false
 isFirst w (t ∷ ts) = same t w
 
 unfoldable pub isReset : List ℕ → Bool
@@ -50,13 +50,13 @@ isReset s = isFirst (ascii "reset") (tokensOf s)
 -- ---- what a line asks for
 
 -- the words that are accepted with nothing to do
-unfoldable pub accepted : List (List ℕ)
-accepted = ascii "bdopen" ∷ ascii "bdclose" ∷ ascii "bdcfg" ∷ ascii "efuse" ∷ ascii "aicupg" ∷ ascii "reset" ∷ []
+unfoldable pub doneWords : List (List ℕ)
+doneWords = ascii "bdopen" ∷ ascii "bdclose" ∷ ascii "bdcfg" ∷ ascii "efuse" ∷ ascii "aicupg" ∷ ascii "reset" ∷ []
 
 -- the command words
 unfoldable pub wordOf : List ℕ → Word
 wordOf t =
-    cond (anyOf (same t) accepted) word.Done
+    cond (anyOf (same t) doneWords) word.Done
     (cond (same t (ascii "bderase")) word.Erase
     (cond (same t (ascii "bdwrite")) word.Write
     (cond (same t (ascii "bdread")) word.Read

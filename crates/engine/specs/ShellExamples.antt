@@ -9,7 +9,7 @@ use Rattle.text.specs.Trim.{whiteSpace, codePoint, blankLen, lead, trimStart, k
 use Rattle.text.specs.Number.{digitOf, digits, some, signed, isHex, numeral, numberIn}
 use Rattle.text.specs.Token.{tokensOf, ascii, startsWith, same}
 use Rattle.wire.specs.Bytes.{bytesOf, le, wordAt, laid}
-use Rattle.engine.specs.Shell.{textOf, isWrite, isReset, accepted, wordOf, withNumber, withId, lineOf, windowOf, bootWords, bootName, bootTable}
+use Rattle.engine.specs.Shell.{textOf, isWrite, isReset, doneWords, wordOf, withNumber, withId, lineOf, windowOf, bootWords, bootName, bootTable}
 use Rattle.engine.specs.declared.shell.Line.the-variants.{Bad, Done, Erase, Write, Boot}
 use Rattle.engine.specs.declared.shell.Text.the-variants as text
 use Rattle.engine.specs.declared.shell.Window.the-variants.{Out, At}
@@ -24,7 +24,7 @@ pub lines :
     × (lineOf (ascii " reset") ≡ Bad)
     × (lineOf (ascii "reset now") ≡ Done)
     × (lineOf (ascii "get_bootdevice 0X40000100 82") ≡ Boot 0x40000100 82)
-unfolding begins anyOf utf8-1 utf8-2 utf8-3 utf8-4 utf8-char firstOf charLen whiteSpace codePoint blankLen lead trimStart keep trimEnd trim digitOf digits some signed isHex numeral numberIn tokensOf same accepted wordOf withNumber withId lineOf
+unfolding begins anyOf utf8-1 utf8-2 utf8-3 utf8-4 utf8-char firstOf charLen whiteSpace codePoint blankLen lead trimStart keep trimEnd trim digitOf digits some signed isHex numeral numberIn tokensOf same doneWords wordOf withNumber withId lineOf
 lines = (refl, refl, refl, refl, refl, refl)
 
 -- `is_write` looks at the first bytes alone, `is_reset` at the first token

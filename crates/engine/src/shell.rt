@@ -16,7 +16,7 @@ ghost use Prim.Native.Nat.{ℕ, min};
 ghost use Rattle.text.specs.Utf8.{anyOf};
 ghost use Rattle.text.specs.Token.{same, restOf};
 ghost use Rattle.wire.specs.Bytes.{laid, bytesOf};
-ghost use Rattle.engine.specs.Shell.{lineOf, wordOf, accepted, withNumber, nextAt, idPast, onThree, eraseOf, writeOf, readOf, bootOf, isWrite, isReset, windowOf, bootWords, bootName, bootTable, textOf};
+ghost use Rattle.engine.specs.Shell.{lineOf, wordOf, doneWords, withNumber, nextAt, idPast, onThree, eraseOf, writeOf, readOf, bootOf, isWrite, isReset, windowOf, bootWords, bootName, bootTable, textOf};
 
 // ---- the line of a RUN_SHELL_STR payload
 
@@ -64,7 +64,7 @@ pub fn is_reset(line: &[u8]) -> bool
 // ---- what a line asks for
 
 // What a command word asks for; `Other` for a word that is no command.
-pub enum Word {
+enum Word {
     Other,
     Done,
     Erase,
@@ -84,20 +84,20 @@ pub enum Line {
 }
 
 // A number at a place of a line and the place of the token behind it, if a number stands there.
-pub enum Next {
+enum Next {
     Bad,
     Number(u64, Place),
 }
 
 // Three numbers, if they are there.
-pub enum Three {
+enum Three {
     Bad,
     All(u64, u64, u64),
 }
 
 // Is a word one of those that are accepted with nothing to do.
-fn is_accepted(word: &[u8]) -> bool
-    ensures { λ r. ⌜ r ≡ anyOf (same (now (word .entry))) accepted ⌝ }
+fn is_done(word: &[u8]) -> bool
+    ensures { λ r. ⌜ r ≡ anyOf (same (now (word .entry))) doneWords ⌝ }
 {
     if same(word, b"bdopen") {
         return true;
@@ -121,7 +121,7 @@ fn is_accepted(word: &[u8]) -> bool
 fn word_of(word: &[u8]) -> Word
     ensures { λ r. ⌜ r ≡ wordOf (now (word .entry)) ⌝ }
 {
-    if is_accepted(word) {
+    if is_done(word) {
         return Word::Done;
     }
     if same(word, b"bderase") {

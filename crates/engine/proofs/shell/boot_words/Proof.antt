@@ -31,12 +31,13 @@ same-length c = search needs
 returns : tie.Need-returns
 unfolding bootWords
 returns c =
+    let a = c .before .before .before .before .before .before .before .before .before .before .before .before .before .before .before .before .before .before .before .before .before .args in
     c .before .before .put-word5 .ensures
-    ∙ ap (λ (l : List ℕ). putWord l 0x20 (c .before .before .before .before .before .before .before .before .before .before .before .before .before .before .before .before .before .before .before .before .before .args .capacity % 2 ^ 32))
+    ∙ ap (λ (l : List ℕ). putWord l 0x20 (a .capacity % 2 ^ 32))
     (c .before .before .before .before .before .before .put-word4 .ensures
-    ∙ ap (λ (l : List ℕ). putWord l 0x1C (c .before .before .before .before .before .before .before .before .before .before .before .before .before .before .before .before .before .before .before .before .before .args .block))
+    ∙ ap (λ (l : List ℕ). putWord l 0x1C (a .block))
     (c .before .before .before .before .before .before .before .before .before .before .put-word3 .ensures
-    ∙ ap (λ (l : List ℕ). putWord l 0x18 (c .before .before .before .before .before .before .before .before .before .before .before .before .before .before .before .before .before .before .before .before .before .args .block))
+    ∙ ap (λ (l : List ℕ). putWord l 0x18 (a .block))
     (c .before .before .before .before .before .before .before .before .before .before .before .before .before .before .put-word2 .ensures ∙ ap (λ (l : List ℕ). putWord l 0x08 2) (c .before .before .before .before .before .before .before .before .before .before .before .before .before .before .before .before .before .before .put-word .ensures))))
 
 pub boot-words-spec : {M : Type 1} → statement M

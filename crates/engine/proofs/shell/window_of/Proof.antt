@@ -1,4 +1,5 @@
 -- Below the base, past the end, or within scratch.
+use native.Mathlib.Omega.{arith}
 use Rattle.engine.proofs.Windows.{window-below, window-past, window-at}
 use borrow.Author.Needs.{needs}
 use Rattle.engine.proofs.shell.window_of.Statement.{statement}
@@ -8,7 +9,9 @@ returns : tie.Need-returns
 returns c = window-below _ _ _ _ (c .if1 .taken)
 
 returns-2 : tie.Need-returns-2
-returns-2 c = window-past _ _ _ _ (c .before .if1 .left) (c .if2 .taken)
+returns-2 c =
+    let a = c .before .before .args in
+    window-past (a .base) (a .size) (a .addr) (a .len) (omega arith) (omega arith)
 
 sub-least : tie.Need-sub-least
 sub-least c = search needs
@@ -17,7 +20,9 @@ least-requires : tie.Need-least-requires
 least-requires c κs = search needs
 
 returns-3 : tie.Need-returns-3
-returns-3 c = window-at _ _ _ _ (c .before .before .if1 .left) (c .before .if2 .left) (c .least .ensures)
+returns-3 c =
+    let a = c .before .before .before .args in
+    window-at (a .base) (a .size) (a .addr) (a .len) (omega arith) (omega arith) (c .least .ensures)
 
 pub window-of-spec : {M : Type 1} → statement M
 window-of-spec = tie.close (tie.spec returns returns-2 sub-least least-requires returns-3)

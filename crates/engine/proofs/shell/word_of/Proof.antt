@@ -5,8 +5,8 @@ use borrow.Author.Needs.{needs}
 use Rattle.engine.proofs.shell.word_of.Statement.{statement}
 use Rattle.engine.proofs.shell.word_of.Tie as tie
 
-is-accepted-requires : tie.Need-is-accepted-requires
-is-accepted-requires c κs = search needs
+is-done-requires : tie.Need-is-done-requires
+is-done-requires c κs = search needs
 
 returns : tie.Need-returns
 unfolding wordOf
@@ -60,7 +60,7 @@ pub word-of-spec : {M : Type 1} → statement M
 word-of-spec =
     tie.close
     (tie.spec
-    is-accepted-requires
+    is-done-requires
     returns
     slice-aggregate-same
     same-requires
