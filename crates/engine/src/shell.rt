@@ -12,7 +12,7 @@ use wire::bytes::le4;
 use wire::bytes::put;
 use wire::bytes::u32_at;
 ghost use mathlib.Core.Path.{_≡_};
-ghost use Prim.Native.Nat.{ℕ, min};
+ghost use Prim.Native.Nat.{ℕ, _-_, min};
 ghost use Rattle.text.specs.Utf8.{anyOf};
 ghost use Rattle.text.specs.Token.{same, restOf};
 ghost use Rattle.wire.specs.Bytes.{laid, bytesOf};
@@ -248,11 +248,14 @@ pub enum Window {
     At { place: usize, len: usize },
 }
 
-// The lesser of two numbers.
-fn least(a: u64, b: u64) -> u64
-    ensures { λ r. ⌜ r ≡ min a b ⌝ }
+// A length, cut to what a room has left from a place on.
+fn cut(len: u64, room: u64, at: u64) -> u64
+    ensures { λ r. ⌜ r ≡ min len (room - at) ⌝ }
 {
-    if a < b { a } else { b }
+    if room < at {
+        return 0;
+    }
+    if len < room - at { len } else { room - at }
 }
 
 // `window` of shell.rs: an address outside scratch is `Out`, and a length is cut to scratch's end.
@@ -270,7 +273,7 @@ pub fn window_of(base: u32, size: usize, addr: u64, len: u64) -> Window
     }
     Window::At {
         place: off as usize,
-        len: least(len, room - off) as usize,
+        len: cut(len, room, off) as usize,
     }
 }
 

@@ -13,16 +13,13 @@ returns-2 c =
     let a = c .before .before .args in
     window-past (a .base) (a .size) (a .addr) (a .len) (omega arith) (omega arith)
 
-sub-least : tie.Need-sub-least
-sub-least c = search needs
-
-least-requires : tie.Need-least-requires
-least-requires c κs = search needs
+cut-requires : tie.Need-cut-requires
+cut-requires c κs = search needs
 
 returns-3 : tie.Need-returns-3
 returns-3 c =
     let a = c .before .before .before .args in
-    window-at (a .base) (a .size) (a .addr) (a .len) (omega arith) (omega arith) (c .least .ensures)
+    window-at (a .base) (a .size) (a .addr) (a .len) (omega arith) (omega arith) (c .cut .ensures)
 
 pub window-of-spec : {M : Type 1} → statement M
-window-of-spec = tie.close (tie.spec returns returns-2 sub-least least-requires returns-3)
+window-of-spec = tie.close (tie.spec returns returns-2 cut-requires returns-3)
