@@ -9,7 +9,7 @@ ghost use lib.ListN.{length, replicate};
 ghost use Rattle.storage.specs.Chip.{failing, nextCall, called, able, got, fetched};
 
 // Every byte becomes `v`.
-pub(crate) fn fill(s: &mut [u8], v: u8)
+pub fn fill(s: &mut [u8], v: u8)
     ensures { λ _. ⌜ now (s .exit) ≡ replicate (length (now (s .entry))) v ⌝ }
 {
     let mut i = 0;

@@ -1,0 +1,3 @@
+-- The definitions that the contracts cite, a file for each of src/, and worked examples of them.
+pub mod Shell
+pub mod ShellExamples
