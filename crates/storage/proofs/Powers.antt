@@ -189,3 +189,6 @@ module _ (n : ℕ) where
       let p = page-power n e in
       let s : shiftOf n ≡ p .0 = ap (trailingZeros 64) (p .1) ∙ trailing-power 64 (p .0) (omega arith) in
       (ap (λ (k : ℕ). 2 ^ k) s ∙ sym (p .1), omega arith)
+
+pub page-some : (p : ℕ) → pageOk p ≡ true → 0 < p
+page-some p e = let b = page-bounds p e .0 in omega arith

@@ -46,6 +46,7 @@ module _ (s : Store) (chip marks buf : List ℕ) {g : Bool}
       let n = t .nand k in
       record {
         shaped = record {
+          page-ok = n .numbers .page-ok;
           page-some = omega (arith, n .numbers .page-low);
           page-most = n .numbers .page-high;
           pages-some = omega (arith, n .numbers .pages-low);

@@ -15,12 +15,14 @@ use Rattle.storage.specs.declared.types.Erased.the-variants.{None, Block
 use Rattle.storage.specs.World.{Lent, Dev, dev, Out, out, andThen, Told, told, Seen, seen}
 use Rattle.storage.specs.Chip.{failing, able, called, over, programs, fetched}
 use Rattle.storage.specs.Fold.{run, base, writes}
+use Rattle.storage.specs.Open.{pageOk}
 use Rattle.storage.specs.Nor.{freed, holding, holds, pagesOf, satAdd}
 
 -- ---- what an opening has tested (01, refusal 13) and later calls test again
 
 -- the marks and the shape fit together, and the numbers are within their bounds
 pub record Shaped (marks : List ℕ) (h : Shape) : Type 0 where
+  pub page-ok : pageOk (h .page) ≡ true
   pub page-some : 0 < h .page
   pub page-most : h .page ≤ 4096
   pub pages-some : 0 < h .pages

@@ -11,6 +11,7 @@ use crate::chip::fetch;
 use crate::chip::fill;
 use crate::chip::may;
 use crate::chip::take_call;
+use crate::open::page_number;
 use crate::types::Answer;
 use crate::types::Done;
 use crate::types::Erased;
@@ -27,14 +28,15 @@ ghost use Rattle.text.specs.Token.{same};
 ghost use Rattle.storage.specs.World.{lent, dev, out, told, seen};
 ghost use Rattle.storage.specs.Fold.{run, base, writes};
 ghost use Rattle.storage.specs.Nor.{pagesOf};
+ghost use Rattle.storage.specs.Open.{pageOk};
 ghost use Rattle.storage.specs.Nand.{Shaped, Sound, blockSize, kept, asksGood, eraseBlock, programPage, noting, isErased, eraseChecked, ready, burns, attempt, orElse, flushes, flushed, loads, stays, written, eraseN, eraseRange, erased, readOut};
 
-// The number of the page, or of the block, that an address lies in.
-fn page_number(page: u64, at: u64) -> u64
-    requires { ⌜ 0 < page ⌝ }
-    ensures { λ r. ⌜ r ≡ at / page ⌝ }
+// The number of the block that an address lies in.
+fn block_number(block: u64, at: u64) -> u64
+    requires { ⌜ 0 < block ⌝ }
+    ensures { λ r. ⌜ r ≡ at / block ⌝ }
 {
-    at / page
+    at / block
 }
 
 // A bit stays only where old and new have it.
@@ -213,7 +215,7 @@ fn try_flush(s: Store, faults: &[u8], marks: &[u8], chip: &mut [u8], buffer: &[u
     ensures { λ r. ⌜ out (r .ok) (dev (r .store) (now (chip .exit)) (now (buffer .entry))) ≡ attempt (lent (now (faults .entry)) (now (marks .entry))) (dev s (now (chip .entry)) (now (buffer .entry))) ⌝ }
 {
     let size = s.shape.page * s.shape.pages;
-    let k = page_number(size, s.at);
+    let k = block_number(size, s.at);
     let r = make_ready(s, faults, marks, chip, k);
     if !r.ok {
         return r;
@@ -278,9 +280,9 @@ pub(crate) fn flush(s: Store, faults: &[u8], marks: &[u8], chip: &mut [u8], buff
     }
 }
 
-// Where the page, or the block, of an address starts.
+// Where the page of an address starts: the address without the bits that the page's shift leaves out.
 fn page_start(page: u64, at: u64) -> u64
-    requires { ⌜ 0 < page ⌝ }
+    requires { ⌜ pageOk page ≡ true ⌝ }
     ensures { λ r. ⌜ r ≡ base page at ⌝ }
 {
     page_number(page, at) * page
@@ -352,7 +354,7 @@ fn piece(
 
 // How many of the bytes left lie in the page of an address.
 fn piece_len(page: u64, addr: u64, left: usize) -> usize
-    requires { ⌜ 0 < page ⌝ }
+    requires { ⌜ pageOk page ≡ true ⌝ }
     ensures { λ r. ⌜ r ≡ min (page - addr % page) left ⌝ }
 {
     let in_page = addr - page_start(page, addr);
@@ -492,7 +494,7 @@ fn erase_range(
         };
     }
     let block = s.shape.page * s.shape.pages;
-    let k = page_number(block, start);
+    let k = block_number(block, start);
     let first = k * block;
     erase_all(s, faults, marks, chip, k, first, end)
 }

@@ -22,19 +22,19 @@ returns c b =
 mul-block : tie.Need-mul-block
 mul-block c = omega (arith, block-most (c .before .before .before .before .before .before .before .pre))
 
-page-number-requires : tie.Need-page-number-requires
-page-number-requires c κs = block-some (c .before .before .before .before .before .before .before .pre)
+block-number-requires : tie.Need-block-number-requires
+block-number-requires c κs = block-some (c .before .before .before .before .before .before .before .pre)
 
 mul-first : tie.Need-mul-first
 mul-first c =
     let z = c .before .before .before .before .before .before .before .before .args in
-    rw (c .page-number .ensures) (omega (arith, div-mul-le-self (z .start) (z .s .shape .page * z .s .shape .pages)))
+    rw (c .block-number .ensures) (omega (arith, div-mul-le-self (z .start) (z .s .shape .page * z .s .shape .pages)))
 
 erase-all-requires : tie.Need-erase-all-requires
 erase-all-requires c κs =
     let z = c .before .before .before .before .before .before .before .before .before .args in
     let r = c .before .before .before .before .before .before .before .before .before .pre in
-    (r, number-most (c .before .page-number .result) (z .s .shape .page * z .s .shape .pages) (block-some (r)), omega (arith, r .capacity-most, c .before .before .before .if1 .left))
+    (r, number-most (c .before .block-number .result) (z .s .shape .page * z .s .shape .pages) (block-some (r)), omega (arith, r .capacity-most, c .before .before .before .if1 .left))
 
 same-length : tie.Need-same-length
 same-length c = search needs
@@ -43,7 +43,7 @@ returns-2 : tie.Need-returns-2
 returns-2 c b =
     let z = c .before .before .before .before .before .before .before .before .before .before .before .before .args in
     let l = lent (now (z .faults)) (now (z .marks)) in
-    range-done l (z .start) (z .size) (dev (z .s) (now (z .chip)) b) (c .before .before .before .before .before .before .before .before .sat-add .result) (c .before .before .before .before .before .before .before .before .sat-add .ensures) (c .before .before .before .before .page-number .result) (c .before .before .before .before .page-number .result * (z .s .shape .page * z .s .shape .pages)) (c .before .before .before .before .before .before .if1 .left) (c .before .before .before .before .page-number .ensures) (rw (c .before .before .before .before .page-number .ensures) (start-is (z .s .shape .page * z .s .shape .pages) (z .start))) (c .before .before .erase-all .ensures b)
+    range-done l (z .start) (z .size) (dev (z .s) (now (z .chip)) b) (c .before .before .before .before .before .before .before .before .sat-add .result) (c .before .before .before .before .before .before .before .before .sat-add .ensures) (c .before .before .before .before .block-number .result) (c .before .before .before .before .block-number .result * (z .s .shape .page * z .s .shape .pages)) (c .before .before .before .before .before .before .if1 .left) (c .before .before .before .before .block-number .ensures) (rw (c .before .before .before .before .block-number .ensures) (start-is (z .s .shape .page * z .s .shape .pages) (z .start))) (c .before .before .erase-all .ensures b)
 
 pub erase-range-spec : {M : Type 1} → statement M
 erase-range-spec =
@@ -52,7 +52,7 @@ erase-range-spec =
     sat-add-requires
     returns
     mul-block
-    page-number-requires
+    block-number-requires
     mul-first
     erase-all-requires
     same-length

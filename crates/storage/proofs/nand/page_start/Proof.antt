@@ -7,7 +7,7 @@ use Rattle.storage.proofs.nand.page_start.Statement.{statement}
 use Rattle.storage.proofs.nand.page_start.Tie as tie
 
 page-number-requires : tie.Need-page-number-requires
-page-number-requires c κs = search needs
+page-number-requires c κs = c .pre
 
 mul-result : tie.Need-mul-result
 mul-result c =

@@ -1,9 +1,10 @@
 -- The page is brought in or cannot be; then the bytes are laid over the buffer at their place in the page.
 use denote.Ref.{now}
-use mathlib.Core.Path.{_≡_}
+use mathlib.Core.Path.{_≡_, ap, _∙_}
 use native.Mathlib.Omega.{arith}
 use borrow.Author.Tests.{not-true, not-false}
 use borrow.Author.Needs.{needs}
+use Rattle.storage.specs.Open.{pageOk}
 use Rattle.storage.specs.World.{lent, dev}
 use native.Mathlib.Nat.{mod-le}
 use Prim.Native.Nat.{_-_, _%_}
@@ -12,7 +13,7 @@ use Rattle.storage.proofs.nand.piece.Statement.{statement}
 use Rattle.storage.proofs.nand.piece.Tie as tie
 
 page-start-requires : tie.Need-page-start-requires
-page-start-requires c κs = omega (arith, c .before .before .before .before .before .pre .0 .shaped .page-some)
+page-start-requires c κs = ap pageOk (c .before .before .before .before .before .pre .1) ∙ c .before .before .before .before .before .pre .0 .shaped .page-ok
 
 load-requires : tie.Need-load-requires
 load-requires c κs = c .before .before .before .before .before .before .before .before .pre .0

@@ -12,8 +12,8 @@ use Rattle.storage.proofs.nand.try_flush.Tie as tie
 mul-size : tie.Need-mul-size
 mul-size c = omega (arith, block-most (c .before .before .before .before .before .pre .shaped))
 
-page-number-requires : tie.Need-page-number-requires
-page-number-requires c κs = block-some (c .before .before .before .before .before .pre .shaped)
+block-number-requires : tie.Need-block-number-requires
+block-number-requires c κs = block-some (c .before .before .before .before .before .pre .shaped)
 
 make-ready-requires : tie.Need-make-ready-requires
 make-ready-requires c κs = search needs
@@ -26,14 +26,14 @@ returns c =
     let z = c .before .before .before .before .before .before .before .before .before .before .before .before .args in
     let l = lent (now (z .faults)) (now (z .marks)) in
     let d = dev (z .s) (now (z .chip)) (now (z .buffer)) in
-    attempt-unready l d (c .before .before .before .before .before .before .page-number .result) (c .before .before .before .before .before .before .page-number .ensures) (c .before .before .before .before .make-ready .ensures (now (z .buffer))) (not-true _ (c .if1 .taken))
+    attempt-unready l d (c .before .before .before .before .before .before .block-number .result) (c .before .before .before .before .before .before .block-number .ensures) (c .before .before .before .before .make-ready .ensures (now (z .buffer))) (not-true _ (c .if1 .taken))
 
 burn-requires : tie.Need-burn-requires
 burn-requires c κs =
     let z = c .before .before .before .before .before .before .before .before .before .before .before .before .before .before .args in
     let l = lent (now (z .faults)) (now (z .marks)) in
     let d = dev (z .s) (now (z .chip)) (now (z .buffer)) in
-    page-fits (sound-as (ready-shape l d (c .before .before .before .before .before .before .before .before .page-number .result) (c .before .before .before .before .before .before .make-ready .ensures (now (z .buffer)))) (c .before .before .before .before .before .before .before .before .before .before .before .before .before .before .pre))
+    page-fits (sound-as (ready-shape l d (c .before .before .before .before .before .before .before .before .block-number .result) (c .before .before .before .before .before .before .make-ready .ensures (now (z .buffer)))) (c .before .before .before .before .before .before .before .before .before .before .before .before .before .before .pre))
 
 same-length-2 : tie.Need-same-length-2
 same-length-2 c = search needs
@@ -43,14 +43,14 @@ returns-2 c =
     let z = c .before .before .before .before .before .before .before .before .before .before .before .before .before .before .before .before .before .args in
     let l = lent (now (z .faults)) (now (z .marks)) in
     let d = dev (z .s) (now (z .chip)) (now (z .buffer)) in
-    attempt-burns l d (c .before .before .before .before .before .before .before .before .before .before .before .page-number .result) (c .before .before .before .before .before .before .before .before .before .before .before .page-number .ensures) (c .before .before .before .before .before .before .before .before .before .make-ready .ensures (now (z .buffer))) (not-false _ (c .before .before .before .before .before .if1 .left)) (c .before .before .burn .ensures (now (z .marks)))
+    attempt-burns l d (c .before .before .before .before .before .before .before .before .before .before .before .block-number .result) (c .before .before .before .before .before .before .before .before .before .before .before .block-number .ensures) (c .before .before .before .before .before .before .before .before .before .make-ready .ensures (now (z .buffer))) (not-false _ (c .before .before .before .before .before .if1 .left)) (c .before .before .burn .ensures (now (z .marks)))
 
 pub try-flush-spec : {M : Type 1} → statement M
 try-flush-spec =
     tie.close
     (tie.spec
     mul-size
-    page-number-requires
+    block-number-requires
     make-ready-requires
     same-length
     returns

@@ -36,7 +36,7 @@ sub-piece-len : tie.Need-sub-piece-len Inv-loop μ-loop
 sub-piece-len c = search needs
 
 piece-len-requires : tie.Need-piece-len-requires Inv-loop μ-loop
-piece-len-requires c κs = c .before .before .before .before .before .before .before .pre .0 .shaped .page-some
+piece-len-requires c κs = c .before .before .before .before .before .before .before .pre .0 .shaped .page-ok
 
 add-end : tie.Need-add-end Inv-loop μ-loop
 add-end c = search needs
