@@ -191,6 +191,10 @@ fn update(rng: &mut Rng, world: &World) -> Vec<Act> {
     if rng.percent(92) {
         acts.push(Act::Send(metadata(rng, world)));
     }
+    if rng.percent(15) {
+        let command = rng.pick(&[0x13, 0x14, 0x14, 0x15]);
+        acts.push(Act::Send(frame(command, &[])));
+    }
     let count = world.opening.offsets.len() as u64;
     let near = match count {
         0 => 0,
@@ -265,6 +269,11 @@ fn metadata(rng: &mut Rng, world: &World) -> Vec<u8> {
     };
     partition.truncate(64);
     let mut data = meta(&partition);
+    if rng.percent(50) {
+        // What stands about the field doesn't matter.
+        data[4..0x48].copy_from_slice(&rng.bytes(0x44));
+        data[0x88..].copy_from_slice(&rng.bytes(0x178));
+    }
     match rng.case(&[86, 4, 3, 3, 4]) {
         0 => {}
         1 => {

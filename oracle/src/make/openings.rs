@@ -124,7 +124,7 @@ fn scratch(rng: &mut Rng, opening: &mut Opening) {
         0 => rng.pick(&[4096, 4112, 4113, 4200]),
         1 => rng.pick(&[0, 1, 4, 40, 64, 81, 82, 100, 255, 256, 257]),
         2 => rng.within(0, 9000) as u32,
-        _ => rng.within(9000, 65_536) as u32,
+        _ => rng.pick(&[9001, 20_000, 65_535, 65_536]),
     };
     let top = (1u64 << 32) - len as u64;
     opening.scratch_len = len;
