@@ -1,2 +1,5 @@
-// The engine of protocol.rs and the storage shell of shell.rs, over the contracts of `wire`, `text` and `storage`.
+// The upgrade engine, from protocol.rs and shell.rs. So far: its record, what commands read from their
+// payload, and the storage shell on values.
+pub mod command;
 pub mod shell;
+pub mod types;
