@@ -4,5 +4,7 @@ pub mod ShellExamples
 pub mod World
 pub mod Reply
 pub mod Command
+pub mod CommandExamples
 pub mod Storing
 pub mod Running
+pub mod StoringExamples

@@ -82,15 +82,15 @@ within a i n m l h k =
 -- ---- the chip's calls
 
 module _ (l : Lent) (g : Good l) (s : Store) (chip buf : List ℕ) where
-  able-good : (a n : ℕ) → a + n ≤ length chip → able (l .faults) s chip a n ≡ true
+  pub able-good : (a n : ℕ) → a + n ≤ length chip → able (l .faults) s chip a n ≡ true
   unfolding able
   able-good a n h = rw (le-leb (a + n) (length chip) h, g .quiet (s .calls))
 
-  asks-good : (k : ℕ) → k < length (l .marks) → asksGood l k (dev s chip buf) ≡ out true (dev (called s) chip buf)
+  pub asks-good : (k : ℕ) → k < length (l .marks) → asksGood l k (dev s chip buf) ≡ out true (dev (called s) chip buf)
   unfolding asksGood
   asks-good k h = rw (g .quiet (s .calls), eq-eqb (getD (l .marks) k 0) 255 (g .good k h))
 
-  erase-good : (k : ℕ) → k * blockSize s + blockSize s ≤ length chip
+  pub erase-good : (k : ℕ) → k * blockSize s + blockSize s ≤ length chip
       → eraseBlock (l .faults) k (dev s chip buf) ≡ out true (dev (called s) (over (k * blockSize s) (blanks (blockSize s)) chip) buf)
   unfolding eraseBlock
   erase-good k h = programs-well (l .faults) s chip (g .quiet (s .calls)) (k * blockSize s) (blanks (blockSize s)) buf (rw (length-blanks (blockSize s)) h)
@@ -163,13 +163,13 @@ module _ (l : Lent) (d : Dev) (g : Good l) (h : Placed l d) where
   page-ends : d .store .at + d .store .shape .page ≤ blockOf d * blockSize (d .store) + blockSize (d .store)
   page-ends = block-end (d .store .at) (d .store .shape .page) (d .store .shape .pages) (h .page-some) (h .pages-some) (h .on)
 
-  page-fits : d .store .at + length (pageOf d) ≤ length (d .chip)
+  pub page-fits : d .store .at + length (pageOf d) ≤ length (d .chip)
   page-fits = rw page-length (omega (arith, page-ends, block-ends))
 
   -- the block is ready: the page is programmed into the chip c at once, if it is blank there
   module _ (t : Store) (c : List ℕ) (r : ready l (blockOf d) d ≡ out true (dev t c (d .buf))) (same-at : t .at ≡ d .store .at) (same-shape : t .shape ≡ d .store .shape)
       (long : length c ≡ length (d .chip)) (blank : take (length (pageOf d)) (drop (d .store .at) c) ≡ blanks (length (pageOf d))) where
-    burn-good : burns l (dev t c (d .buf)) ≡ out true (dev (called t) (over (d .store .at) (pageOf d) c) (d .buf))
+    pub burn-good : burns l (dev t c (d .buf)) ≡ out true (dev (called t) (over (d .store .at) (pageOf d) c) (d .buf))
     burn-good =
         let e : programPage (l .faults) (t .at) (take (t .shape .page) (d .buf)) (dev t c (d .buf)) ≡ out true (dev (called t) (over (d .store .at) (pageOf d) c) (d .buf)) =
         ap₂ (λ (a : ℕ) (sh : Shape). programPage (l .faults) a (take (sh .page) (d .buf)) (dev t c (d .buf))) same-at same-shape
@@ -183,17 +183,17 @@ module _ (l : Lent) (d : Dev) (g : Good l) (h : Placed l d) where
 
   -- the block is not the one that was erased last: it is erased, and is so remembered
   module _ (other : isErased (d .store .erased) (blockOf d) ≡ false) where
-    checked-good : eraseChecked l (blockOf d) d ≡ out true (dev (called (called (d .store))) (blanked d) (d .buf))
+    pub checked-good : eraseChecked l (blockOf d) d ≡ out true (dev (called (called (d .store))) (blanked d) (d .buf))
     checked-good =
         let k : blockOf d < d .store .shape .blocks = block-below (d .store .at) (d .store .shape .page) (d .store .shape .pages) (h .page-some) (h .pages-some) (d .store .shape .blocks) in-chip in
         let a = asks-good l g (d .store) (d .chip) (d .buf) (blockOf d) (rw (h .marked) k) in
         let e = erase-good l g (called (d .store)) (d .chip) (d .buf) (blockOf d) block-ends in
         sym (checked-done l (blockOf d) d k (sym a) refl (sym e))
 
-    blanked-long : length (blanked d) ≡ length (d .chip)
+    pub blanked-long : length (blanked d) ≡ length (d .chip)
     blanked-long = length-over (blockOf d * blockSize (d .store)) (blanks (blockSize (d .store))) (d .chip) (rw (length-blanks (blockSize (d .store))) block-ends)
 
-    blanked-page : take (length (pageOf d)) (drop (d .store .at) (blanked d)) ≡ blanks (length (pageOf d))
+    pub blanked-page : take (length (pageOf d)) (drop (d .store .at) (blanked d)) ≡ blanks (length (pageOf d))
     blanked-page =
         let b : ℕ = blockOf d * blockSize (d .store) in
         let m : b ≤ d .store .at = div-mul-le-self (d .store .at) (blockSize (d .store)) in

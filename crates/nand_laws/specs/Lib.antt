@@ -1,3 +1,4 @@
 pub mod Kept
 pub mod Fresh
 pub mod Cut
+pub mod Reasons

@@ -3,3 +3,4 @@ pub mod View
 pub mod Stream
 pub mod Full
 pub mod Whole
+pub mod Bounds
