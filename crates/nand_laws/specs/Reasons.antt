@@ -1,7 +1,8 @@
--- Why a NAND call fails or comes up short: only by a chip's error, a bad block, the capacity or a written rule. So it is stated from the
--- other side: where no call is told to fail and every block is marked good, a flush succeeds, whatever block was erased last and
--- whatever the page held before; and where the bytes lie below the capacity and below the chip's end, a write and a read take them
--- all and an erase succeeds. Each leaves a state from which the same holds.
+-- A NAND chip on which nothing is wrong: where no call at all is told to fail and every block is marked good, a flush succeeds,
+-- whatever block was erased last and whatever the page held before; and where the bytes lie below the capacity and below the chip's
+-- end, a write and a read take them all and an erase succeeds. Each leaves a state from which the same holds.
+-- So a call that fails or comes up short has a fault or a bad block in the lent lists, or passes an end. That it met that fault or
+-- that block itself is not said here: the lists are asked to be clean as a whole.
 use mathlib.Core.Path.{_≡_, refl, sym, ap, subst, _∙_}
 use mathlib.Core.Bool.{Bool, true, false}
 use mathlib.Core.List.{List, [], _∷_, _++_}
