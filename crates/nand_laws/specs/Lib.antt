@@ -1,3 +1,4 @@
+pub mod Made
 pub mod Kept
 pub mod Fresh
 pub mod Cut
