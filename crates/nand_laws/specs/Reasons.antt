@@ -1,133 +1,77 @@
--- A NAND chip on which nothing is wrong: where no call at all is told to fail and every block is marked good, a flush succeeds,
--- whatever block was erased last and whatever the page held before; and where the bytes lie below the capacity and below the chip's
--- end, a write and a read take them all and an erase succeeds. Each leaves a state from which the same holds.
--- So a call that fails or comes up short has a fault or a bad block in the lent lists, or passes an end. That it met that fault or
--- that block itself is not said here: the lists are asked to be clean as a whole.
+-- A NAND call fails or comes up short only for a reason of its own. On a store in order (Within), a flush succeeds, and a read, an
+-- erase and a write of a range below the capacity and below the chip's end do so in full, or
+--   one of the chip calls that this very call made has a number that is told to fail, or
+--   a block is marked bad that this very call may have to erase: the block of the page that was held before it or, in an erase or a write,
+--   a block that its range touches.
+-- So faults with other numbers and bad blocks elsewhere fail no call, and where nothing is wrong with the chip (Good) none fails.
+-- Whatever happens, the state behind the call is in order again. The number of the next call is at most 2^64 - 1, where it stays:
+-- from there on calls share that number.
 use mathlib.Core.Path.{_≡_, refl, sym, ap, subst, _∙_}
-use mathlib.Core.Bool.{Bool, true, false}
+use mathlib.Core.Bool.{Bool, true, false, cond}
 use mathlib.Core.List.{List, [], _∷_, _++_}
+use mathlib.Core.Logic.{_⊎_, inl, inr}
 use Prim.Native.Nat.{ℕ, zero, suc, _+_, _-_, _*_, _/_, _%_, _≤_, _<_, min}
-use native.Mathlib.Nat.{add-zero, add-mul, one-mul, mul-le-mul, mul-le-mul-right, mul-comm, mul-mod-left, mul-div-cancel, div-mul-le-self, div-lt-iff-lt-mul, le-of-mul-le-mul-right, mod-lt}
+use native.Mathlib.Nat.{le-refl, add-mul, mul-le-mul, mul-mod-left, mul-div-cancel, div-mul-le-self, div-div-eq-div-mul, div-lt-iff-lt-mul, le-div-iff-mul-le, le-of-mul-le-mul-right, mod-lt}
 use native.Mathlib.Omega.{arith}
-use borrow.Author.Tests.{ltb-true, ltb-false}
-use lib.Dec.{ltb}
-use lib.ListN.{length, take, drop, set, length-set}
-use lib.Seq.{length-take-le, length-front, take-at, take-set-lt}
+use borrow.Author.Tests.{ltb-true, ltb-false, eqb-true, eqb-false, lt-ltb, le-leb}
+use lib.Dec.{ltb, eqb}
+use lib.ListN.{length, take, drop, set, getD}
+use lib.Seq.{length-take-le}
 use Rattle.text.specs.Token.{same}
 use Rattle.storage.specs.declared.types.Erased.{Erased}
 use Rattle.storage.specs.declared.types.Erased.the-variants.{None, Block}
-use Rattle.storage.specs.declared.types.Kind.{Kind}
-use Rattle.storage.specs.declared.types.Kind.the-variants.{Nand}
 use Rattle.storage.specs.declared.types.Shape.{Shape}
 use Rattle.storage.specs.declared.types.Store.{Store}
-use Rattle.storage.specs.World.{Lent, lent, Dev, dev, Out, out, andThen, Told, told, Seen, seen}
-use Rattle.storage.specs.Chip.{called, over}
+use Rattle.storage.specs.World.{Lent, lent, Dev, dev, Out, out, andThen, Told, told, Seen}
+use Rattle.storage.specs.Chip.{failing, able, nextCall, called, over, programs, Got, fetched}
 use Rattle.storage.specs.Fold.{Run, run, base, seals, step, writes}
 use Rattle.storage.specs.Nor.{freed, holding, holds, pagesOf, satAdd}
-use Rattle.storage.specs.Open.{nandStore, byKind}
-use Rattle.storage.specs.Nand.{blockSize, blanks, kept, programPage, noting, isErased, eraseChecked, ready, attempt, flushes, flushed, loads, stays, written, eraseN, erased, readOut}
-use Rattle.storage.specs.Store.{good}
-use Rattle.storage.proofs.Fold.{false-true, loaded-step}
-use Rattle.storage.proofs.Opens.{sound}
+use Rattle.storage.specs.Open.{nandStore}
+use Rattle.storage.specs.Nand.{blockSize, blanks, kept, eraseBlock, programPage, asksGood, noting, remember, isErased, eraseChecked, ready, burns, attempt, orElse, flushes, begins, flushed, loads, stays, written, eraseN, eraseRange, erased, readOut}
+use Rattle.storage.proofs.Chips.{able-fits}
+use Rattle.storage.proofs.Fold.{false-true, stopped, reached}
 use Rattle.storage.proofs.Over.{length-over}
-use Rattle.storage.proofs.Programs.{fetched-well}
+use Rattle.storage.proofs.Programs.{Call, programs-call, fetched-number, fetched-well}
 use Rattle.storage.proofs.NandCalls.{length-blanks, length-page}
-use Rattle.storage.proofs.NandSteps.{checked-done, ready-known, ready-now, burns-done, burns-not, attempt-burns, once, twice, flush-free, flush-done, flushed-done}
-use Rattle.storage.proofs.NandMoves.{load-held, load-done, start-is, written-told, range-done, erased-done, read-none, read-told}
-use Rattle.nand_laws.specs.Kept.{Kept, flushes-kept, flushed-kept, erased-kept, readOut-kept}
-use Rattle.nand_laws.specs.Fresh.{Good, good-blank, Bytes, Placed, pageOf, blockOf, blanked, able-good, asks-good, erase-good, page-fits, burn-good, checked-good, blanked-long, blanked-page, flush-fresh}
+use Rattle.storage.proofs.NandKeeps.{checked-keeps, flushes-keeps}
+use Rattle.storage.proofs.NandMoves.{start-is, written-told, read-unflushed, read-none, read-told}
+use Rattle.nand_laws.specs.Made.{Failed, failed-wide}
+use Rattle.nand_laws.specs.Keeps.{either, next, flushed-keeps, erased-keeps, readOut-keeps}
+use Rattle.nand_laws.specs.Kept.{Kept, flushes-kept, kept-refl, onward, noted, let-go, with-byte, begun}
+use Rattle.nand_laws.specs.Within.{Bytes, pageOf, blockOf, Within, Inside, bytes-more, within-as, set-within, begin-within, within-free}
+use Rattle.nand_laws.specs.Fresh.{Good, good-blank, block-inside, asks-good, erase-good, page-good, block-on, page-fits, blanked-page}
 
--- ---- what is asked of a state, and of a range
+-- ---- what is told of a failure
 
--- a store of a sound shape over a whole chip, with room for a page; a held page lies on its boundary within the chip
-pub record Within (l : Lent) (d : Dev) : Type 0 where
-  pub page-some : 0 < d .store .shape .page
-  pub pages-some : 0 < d .store .shape .pages
-  pub marked : length (l .marks) ≡ d .store .shape .blocks
-  pub whole : length (d .chip) ≡ d .store .shape .blocks * blockSize (d .store)
-  pub room : d .store .shape .page ≤ length (d .buf)
-  pub on : d .store .held ≡ true → d .store .at % d .store .shape .page ≡ 0
-  pub below : d .store .held ≡ true → d .store .at < length (d .chip)
-  pub bytes : d .store .held ≡ true → Bytes (pageOf d)
+-- k is the block of the held page
+abbrev pub Held : Dev → ℕ → Type 0
+Held d k = (d .store .held ≡ true) × (k ≡ blockOf d)
 
--- n bytes from an address on lie below the capacity and below the chip's end
-pub record Inside (d : Dev) (off n : ℕ) : Type 0 where
-  pub low : off + n ≤ d .store .shape .capacity
-  pub short : off + n ≤ length (d .chip)
+-- k is a block that n bytes from an address on touch, from the block of the address on
+abbrev pub Touched : Dev → ℕ → ℕ → ℕ → Type 0
+Touched d off n k = (off / blockSize (d .store) ≤ k) × (k * blockSize (d .store) < off + n)
 
--- a held page of such a store is placed
-placed : (l : Lent) (d : Dev) → Within l d → d .store .held ≡ true → Placed l d
-placed l d w t =
-    record {
-      held = t;
-      on = w .on t;
-      below = w .below t;
-      page-some = w .page-some;
-      pages-some = w .pages-some;
-      marked = w .marked;
-      whole = w .whole;
-      room = w .room;
-      bytes = w .bytes t;
-    }
+-- either
+abbrev pub HeldOrTouched : Dev → ℕ → ℕ → ℕ → Type 0
+HeldOrTouched d off n k = Held d k ⊎ Touched d off n k
 
--- a call that keeps the sizes and holds no page leaves such a state
-free-within : (l : Lent) (d e : Dev) → Kept d e → e .store .held ≡ false → Within l d → Within l e
-free-within l d e k f w =
-    let p : e .store .shape .page ≡ d .store .shape .page = ap (λ (s : Shape). s .page) (k .shape) in
-    let q : e .store .shape .pages ≡ d .store .shape .pages = ap (λ (s : Shape). s .pages) (k .shape) in
-    record {
-      page-some = omega (arith, w .page-some);
-      pages-some = omega (arith, w .pages-some);
-      marked = w .marked ∙ ap (λ (s : Shape). s .blocks) (sym (k .shape));
-      whole = k .chip ∙ w .whole ∙ ap (λ (s : Shape). s .blocks * (s .page * s .pages)) (sym (k .shape));
-      room = omega (arith, k .buf, w .room);
-      on = λ t. false-true (sym f ∙ t);
-      below = λ t. false-true (sym f ∙ t);
-      bytes = λ t. false-true (sym f ∙ t);
-    }
+-- why a call that goes from d to e failed, where it may ask about the blocks `Asks`: a chip call that it made has a number that is told
+-- to fail, or one of these blocks is marked bad
+pub data Reason (l : Lent) (Asks : ℕ → Type 0) (d e : Dev) : Type 0 where
+  error : Failed (l .faults) d e → Reason l Asks d e
+  bad : (k : ℕ) → Asks k → k < length (l .marks) → (getD (l .marks) k 0 ≡ 255 → ⊥) → Reason l Asks d e
 
--- where no block is remembered, none counts as erased
-none-erased : (k : ℕ) → isErased None k ≡ false
-unfolding isErased
-none-erased k = refl
+-- a chip on which nothing is wrong gives none
+pub no-reason : {l : Lent} {Asks : ℕ → Type 0} {d e : Dev} → Good l → Reason l Asks d e → ⊥
+no-reason g (error x) = false-true (sym (g .quiet (x .number)) ∙ x .fails)
+no-reason g (bad k a h n) = n (g .good k h)
 
--- ---- bytes below 256
+-- what holds but for a reason holds where there is none
+pub surely : {A B : Type 0} → (B → ⊥) → A ⊎ B → A
+surely n (inl a) = a
+surely n (inr b) = absurd (n b)
 
--- 0xFF is a byte
-bytes-blanks : (n : ℕ) → Bytes (blanks n)
-unfolding blanks
-bytes-blanks zero i = omega arith
-bytes-blanks (suc n) zero = omega arith
-bytes-blanks (suc n) (suc i) = bytes-blanks n i
-
--- bytes with a byte set in them
-bytes-set : (xs : List ℕ) (i x : ℕ) → x < 256 → Bytes xs → Bytes (set xs i x)
-bytes-set [] i x k h j = h j
-bytes-set (y ∷ ys) zero x k h zero = k
-bytes-set (y ∷ ys) zero x k h (suc j) = h (suc j)
-bytes-set (y ∷ ys) (suc i) x k h zero = h 0
-bytes-set (y ∷ ys) (suc i) x k h (suc j) = bytes-set ys i x k (λ n. h (suc n)) j
-
--- the front of bytes
-bytes-take : (n : ℕ) (xs : List ℕ) → Bytes xs → Bytes (take n xs)
-bytes-take zero xs h i = omega arith
-bytes-take (suc n) [] h i = omega arith
-bytes-take (suc n) (x ∷ xs) h zero = h 0
-bytes-take (suc n) (x ∷ xs) h (suc i) = bytes-take n xs (λ j. h (suc j)) i
-
--- a byte before bytes
-bytes-more : (x : ℕ) (xs : List ℕ) → x < 256 → Bytes xs → Bytes (x ∷ xs)
-bytes-more x xs k h zero = k
-bytes-more x xs k h (suc i) = h i
-
--- ---- blocks within the chip
-
--- the block of a number ends where the next one starts
-block-inside : (k b n : ℕ) → k < n → k * b + b ≤ n * b
-block-inside k b n h =
-    let m : (k + 1) * b ≤ n * b = mul-le-mul-right b (omega arith) in
-    let e : (k + 1) * b ≡ k * b + b = add-mul k 1 b ∙ ap (λ (i : ℕ). k * b + i) (one-mul b) in
-    omega arith
+-- ---- the blocks of a range
 
 -- the blocks that m bytes touch are no more than those that have room for them
 pages-most : (b m j : ℕ) → 0 < b → m ≤ j * b → pagesOf b m ≤ j
@@ -156,336 +100,580 @@ range-inside b start end n h s e =
     let m = pages-most b (end - base b start) (n - k) h (omega arith) in
     omega arith
 
-module _ (l : Lent) (g : Good l) where
-  -- ---- flush
+-- and each starts below any number that neither the range's start nor its end passes
+range-touches : (b start end top k : ℕ) → 0 < b → start ≤ top → end ≤ top → k < start / b + pagesOf b (end - base b start) → k * b < top
+range-touches b start end top k h s e j = go (ltb (k * b) top) refl
+  where
+    go : (t : Bool) → ltb (k * b) top ≡ t → k * b < top
+    go true u = ltb-true (k * b) top u
+    go false u =
+        let n : top ≤ k * b = ltb-false (k * b) top u in
+        let m : start / b + pagesOf b (end - base b start) ≤ k = range-inside b start end k h (omega arith) (omega arith) in
+        absurd (omega arith)
 
-  -- a try into a block that has to be erased first succeeds
-  attempt-fresh : (d : Dev) → Placed l d → isErased (d .store .erased) (blockOf d) ≡ false → (e : Dev) × (attempt l d ≡ out true e)
-  attempt-fresh d h other =
-      let t : Store = noting (Block (blockOf d)) (called (called (d .store))) in
-      let r : ready l (blockOf d) d ≡ out true (dev t (blanked d) (d .buf)) = sym (ready-now l (blockOf d) d other (sym (checked-good l d g h other)) refl refl) in
-      let b = burn-good l d g h t (blanked d) r refl refl (blanked-long l d g h other) (blanked-page l d g h other) in
-      (dev (called t) (over (d .store .at) (pageOf d) (blanked d)) (d .buf), sym (attempt-burns l d (blockOf d) refl (sym r) refl (sym b)))
+-- the block of a page is the block of an address in it
+page-block : (a p g : ℕ) → 0 < p → base p a / (p * g) ≡ a / (p * g)
+page-block a p g h =
+    let e : base p a / p ≡ a / p = ap (λ (n : ℕ). n / p) (sym (start-is p a)) ∙ mul-div-cancel (a / p) h in
+    sym (div-div-eq-div-mul (base p a) p g) ∙ ap (λ (n : ℕ). n / g) e ∙ div-div-eq-div-mul a p g
 
-  -- the held page's bytes on the chip, as a program leaves them, and the chip with them
-  abbrev burnt : Dev → List ℕ
-  burnt d = kept (take (length (pageOf d)) (drop (d .store .at) (d .chip))) (pageOf d)
+-- ---- the single chip calls
 
-  abbrev chipWith : Dev → List ℕ
-  chipWith d = over (d .store .at) (burnt d) (d .chip)
+asks-call : (l : Lent) (k : ℕ) (d : Dev) → Call d (asksGood l k d .dev)
+unfolding asksGood
+asks-call l k d = record { number = refl; buf = refl; size = refl }
 
-  -- a program of the held page is made, and tells whether the page is now what it should be
-  page-told : (d : Dev) → Placed l d → programPage (l .faults) (d .store .at) (pageOf d) d ≡ out (same (burnt d) (pageOf d)) (dev (called (d .store)) (chipWith d) (d .buf))
-  unfolding programPage
-  page-told d h = rw (able-good l g (d .store) (d .chip) (d .buf) (d .store .at) (length (pageOf d)) (page-fits l d g h))
+erase-call : (F : List ℕ) (k : ℕ) (d : Dev) → Call d (eraseBlock F k d .dev)
+unfolding eraseBlock
+erase-call F k d = programs-call F (k * blockSize (d .store)) (blanks (blockSize (d .store))) d
 
-  -- what a try leaves that did not fit: the block is forgotten, and the page lies where it lay
-  abbrev after : Dev → Dev
-  after d = dev (noting None (called (d .store))) (chipWith d) (d .buf)
+page-call : (F : List ℕ) (a : ℕ) (xs : List ℕ) (d : Dev) → Call d (programPage F a xs d .dev)
+unfolding programPage
+page-call F a xs d = go (able F (d .store) (d .chip) a (length xs)) refl
+  where
+    new : List ℕ
+    new = kept (take (length xs) (drop a (d .chip))) xs
 
-  -- the page still lies within the chip, so the second try can be made
-  placed-after : (d : Dev) → Placed l d → Placed l (after d)
-  placed-after d h =
-      let f = page-fits l d g h in
-      let n : length (burnt d) ≡ length (pageOf d) = length-page (d .store .at) (pageOf d) (d .chip) f in
-      let long : length (chipWith d) ≡ length (d .chip) = length-over (d .store .at) (burnt d) (d .chip) (rw n f) in
-      record {
-        held = h .held;
-        on = h .on;
-        below = rw long (h .below);
-        page-some = h .page-some;
-        pages-some = h .pages-some;
-        marked = h .marked;
-        whole = long ∙ h .whole;
-        room = h .room;
-        bytes = h .bytes;
-      }
+    go : (b : Bool) → able F (d .store) (d .chip) a (length xs) ≡ b
+        → Call d ((cond b (out (same new xs) (dev (called (d .store)) (over a new (d .chip)) (d .buf))) (out false (dev (called (d .store)) (d .chip) (d .buf)))) .dev)
+    go true t =
+        let f : a + length xs ≤ length (d .chip) = able-fits F (d .store) (d .chip) a (length xs) t in
+        record { number = refl; buf = refl; size = length-over a new (d .chip) (rw (length-page a xs (d .chip) f) f) }
+    go false t = record { number = refl; buf = refl; size = refl }
 
-  -- a flush succeeds and holds nothing
-  abbrev Flushes : Dev → Type 0
-  Flushes d = (e : Dev) × (flushes l d ≡ out true e) × (e .store .held ≡ false)
+-- where no block is remembered, none counts as erased
+none-erased : (k : ℕ) → isErased None k ≡ false
+unfolding isErased
+none-erased k = refl
 
-  -- the block was erased last: the page fits what is there, or the second try erases the block
-  known-go : (d : Dev) → Placed l d → isErased (d .store .erased) (blockOf d) ≡ true → (b : Bool) → same (burnt d) (pageOf d) ≡ b → Flushes d
-  known-go d h known true t =
-      let w : programPage (l .faults) (d .store .at) (pageOf d) d ≡ out true (dev (called (d .store)) (chipWith d) (d .buf)) =
-      page-told d h ∙ ap (λ (b : Bool). out b (dev (called (d .store)) (chipWith d) (d .buf))) t in
-      let a = attempt-burns l d (blockOf d) refl (ready-known l (blockOf d) d known) refl (burns-done l d (sym w) refl) in
-      (dev (freed (called (d .store))) (chipWith d) (d .buf), sym (flush-done l d (h .held) (once l d a refl) refl), refl)
-  known-go d h known false t =
-      let w : programPage (l .faults) (d .store .at) (pageOf d) d ≡ out false (dev (called (d .store)) (chipWith d) (d .buf)) =
-      page-told d h ∙ ap (λ (b : Bool). out b (dev (called (d .store)) (chipWith d) (d .buf))) t in
-      let a = attempt-burns l d (blockOf d) refl (ready-known l (blockOf d) d known) refl (burns-not l d (sym w) refl refl) in
-      let f = attempt-fresh (after d) (placed-after d h) (none-erased (blockOf d)) in
-      (dev (freed (f .0 .store)) (f .0 .chip) (f .0 .buf), sym (flush-done l d (h .held) (twice l d a refl (sym (f .1))) refl), refl)
+-- a checked erase that succeeded has set its block to 0xFF
+checked-was : (l : Lent) (k : ℕ) (d : Dev) → k < d .store .shape .blocks → eraseChecked l k d .ok ≡ true
+    → eraseChecked l k d .dev ≡ dev (called (called (d .store))) (over (k * blockSize (d .store)) (blanks (blockSize (d .store))) (d .chip)) (d .buf)
+unfolding eraseChecked asksGood eraseBlock programs
+checked-was l k d h = rw (lt-ltb k (d .store .shape .blocks) h) (go (asksGood l k d .ok) refl)
+  where
+    b : ℕ
+    b = blockSize (d .store)
 
-  -- a held page, whatever block was erased last
-  held-go : (d : Dev) → Placed l d → (b : Bool) → isErased (d .store .erased) (blockOf d) ≡ b → Flushes d
-  held-go d h true t = known-go d h t (same (burnt d) (pageOf d)) refl
-  held-go d h false t = (_, flush-fresh l d g h t, refl)
+    s : Store
+    s = called (d .store)
 
-  -- a held page or none
-  flush-go : (d : Dev) → Within l d → (b : Bool) → d .store .held ≡ b → Flushes d
-  flush-go d w true t = held-go d (placed l d w t) (isErased (d .store .erased) (blockOf d)) refl
-  flush-go d w false t = (d, sym (flush-free l d t), t)
+    end : Dev
+    end = dev (called s) (over (k * b) (blanks b) (d .chip)) (d .buf)
 
-  -- and it leaves such a state
-  flush-went : (d : Dev) → Within l d → (e : Dev) × (flushes l d ≡ out true e) × (e .store .held ≡ false) × Kept d e × Within l e
-  flush-went d w =
-      let u = flush-go d w (d .store .held) refl in
-      let k : Kept d (u .0) = subst (λ (o : Out). Kept d (o .dev)) (u .1) (flushes-kept l d) in
-      (u .0, u .1, u .2, k, free-within l d (u .0) k (u .2) w)
+    late : (t : Bool) → (cond t (out true end) (out false (dev (called s) (d .chip) (d .buf)))) .ok ≡ true → (cond t (out true end) (out false (dev (called s) (d .chip) (d .buf)))) .dev ≡ end
+    late true e = refl
+    late false e = false-true e
 
-  -- a flush succeeds, whatever block was erased last and whatever the page held before
-  pub flush-ok : (d : Dev) → Within l d → flushes l d .ok ≡ true
-  flush-ok d w = ap (λ (o : Out). o .ok) (flush-went d w .1)
+    go : (t : Bool) → asksGood l k d .ok ≡ t → (cond t (eraseBlock (l .faults) k (asksGood l k d .dev)) (asksGood l k d)) .ok ≡ true
+        → (cond t (eraseBlock (l .faults) k (asksGood l k d .dev)) (asksGood l k d)) .dev ≡ end
+    go true u e = late (able (l .faults) s (d .chip) (k * b) (length (blanks b))) e
+    go false u e = false-true (sym u ∙ e)
 
-  -- and leaves such a state
-  pub flush-within : (d : Dev) → Within l d → Within l (flushes l d .dev)
-  flush-within d w = let u = flush-went d w in subst (λ (o : Out). Within l (o .dev)) (sym (u .1)) (u .4)
+-- ---- a call under way
 
-  -- the flush that a caller asks for succeeds too
-  pub flushed-ok : (d : Dev) → Within l d → flushed l d .ok ≡ true
-  flushed-ok d w = ap (λ (o : Out). o .ok) (sym (flushed-done l d (sym (flush-went d w .1)) refl refl))
+-- the call started at d and may ask about the blocks `Asks`
+module _ (l : Lent) (Asks : ℕ → Type 0) (d : Dev) where
+  -- it has come to e, whose held page, if any, lies in one of these blocks
+  record Still (e : Dev) : Type 0 where
+    within : Within l e
+    kept : Kept d e
+    asks : e .store .held ≡ true → Asks (blockOf e)
 
-  -- and leaves such a state
-  pub flushed-within : (d : Dev) → Within l d → Within l (flushed l d .dev)
-  flushed-within d w =
-      let u = flush-went d w in
-      let f = flushed-done l d (sym (u .1)) refl refl in
-      free-within l d (flushed l d .dev) (flushed-kept l d) (ap (λ (o : Out). o .dev .store .held) (sym f) ∙ u .2) w
+  still-as : (e f : Dev) → f .store .shape ≡ e .store .shape → length (f .chip) ≡ length (e .chip) → f .buf ≡ e .buf → f .store .at ≡ e .store .at
+      → (f .store .held ≡ true → e .store .held ≡ true) → Kept d f → Still e → Still f
+  still-as e f shape long buf at held k s =
+      record { within = within-as l e f shape long buf at held (s .within); kept = k; asks = λ t. rw (shape, at) (s .asks (held t)) }
 
-  -- ---- read
+  calls : (e f : Dev) → Call e f → Still e → Still f
+  calls e f c s =
+      still-as e f (ap (λ (x : Store). x .shape) (c .number)) (c .size) (c .buf) (ap (λ (x : Store). x .at) (c .number)) (λ t. ap (λ (x : Store). x .held) (sym (c .number)) ∙ t)
+      (onward d e f c (s .kept)) s
 
-  -- the flush and then the chip's bytes, if any are asked for
-  read-go : (off : ℕ) (room : List ℕ) (d : Dev) (n : ℕ) → Within l d → n ≡ length room → Inside d off (length room)
-      → (s : Seen) × (readOut l off room d ≡ s) × (s .told .count ≡ n) × (s .told .dev .store .held ≡ false)
-  read-go off room d zero w q i =
-      let u = flush-went d w in
-      let f = u .0 in
-      let c : f .store .shape .capacity ≡ d .store .shape .capacity = ap (λ (s : Shape). s .capacity) (u .3 .shape) in
-      let m : 0 ≡ min (length room) (f .store .shape .capacity - off) = omega arith in
-      (seen (told 0 0 f) room, sym (read-none l off room d (sym (u .1)) refl 0 m refl), refl, u .2)
-  read-go off room d (suc m) w q i =
-      let u = flush-went d w in
-      let f = u .0 in
-      let n : ℕ = suc m in
-      let c : f .store .shape .capacity ≡ d .store .shape .capacity = ap (λ (s : Shape). s .capacity) (u .3 .shape) in
-      let k : n ≡ min (length room) (f .store .shape .capacity - off) = omega (arith, i .low) in
-      let t : length (take n room) ≡ n = length-take-le n room (omega arith) in
-      let b : off + length (take n room) ≤ length (f .chip) = omega (arith, u .3 .chip, i .short) in
-      let r = fetched-well (l .faults) (f .store) (f .chip) (g .quiet (f .store .calls)) off (take n room) b in
-      let z : suc m ≡ 0 → ⊥ = λ e. omega arith in (
-        seen (told 0 n (dev (called (f .store)) (f .chip) (f .buf))) (take (length (take n room)) (drop off (f .chip)) ++ drop n room),
-        sym (read-told l off room d (sym (u .1)) refl n k z (sym r) refl),
-        refl,
-        u .2,
-      )
+  notes : (x : Erased) (e : Dev) → Still e → Still (remember x e)
+  notes x e s = still-as e (remember x e) refl refl refl refl (λ t. t) (noted d x e (s .kept)) s
 
-  -- a read below the capacity and below the chip's end counts all of its room
-  pub read-whole : (off : ℕ) (room : List ℕ) (d : Dev) → Within l d → Inside d off (length room) → readOut l off room d .told .count ≡ length room
-  read-whole off room d w i =
-      let u = read-go off room d (length room) w refl i in
-      ap (λ (s : Seen). s .told .count) (u .1) ∙ u .2
+  frees : (e : Dev) → Still e → Still (dev (freed (e .store)) (e .chip) (e .buf))
+  frees e s = still-as e (dev (freed (e .store)) (e .chip) (e .buf)) refl refl refl refl (λ t. false-true t) (let-go d e (s .kept)) s
 
-  -- and leaves such a state
-  pub read-within : (off : ℕ) (room : List ℕ) (d : Dev) → Within l d → Inside d off (length room) → Within l (readOut l off room d .told .dev)
-  read-within off room d w i =
-      let u = read-go off room d (length room) w refl i in
-      free-within l d (readOut l off room d .told .dev) (readOut-kept l d off room) (ap (λ (s : Seen). s .told .dev .store .held) (u .1) ∙ u .3) w
+  flushes-still : (e : Dev) → Still e → Still (flushes l e .dev)
+  flushes-still = flushes-keeps Still calls notes l frees
 
-  -- ---- erase
+  flushed-still : (e : Dev) → Still e → Still (flushed l e .dev)
+  flushed-still = flushed-keeps Still calls notes l frees
 
-  -- a good block on the chip is erased
-  checked-at : (k : ℕ) (s : Store) (chip buf : List ℕ) → length (l .marks) ≡ s .shape .blocks → k < s .shape .blocks → k * blockSize s + blockSize s ≤ length chip
-      → eraseChecked l k (dev s chip buf) ≡ out true (dev (called (called s)) (over (k * blockSize s) (blanks (blockSize s)) chip) buf)
-  checked-at k s chip buf m h f =
-      let a = asks-good l g s chip buf k (rw m h) in
-      let e = erase-good l g (called s) chip buf k f in
-      sym (checked-done l k (dev s chip buf) h (sym a) refl (sym e))
+  erased-still : (e : Dev) → Still e → (start size : ℕ) → Still (erased l start size e .dev)
+  erased-still = erased-keeps Still calls notes l frees
 
-  -- and so are blocks one after the other
-  erase-run : (n k : ℕ) (s : Store) (chip buf : List ℕ) → length (l .marks) ≡ s .shape .blocks → length chip ≡ s .shape .blocks * blockSize s → k + n ≤ s .shape .blocks
-      → (e : Dev) × (eraseN l n k (dev s chip buf) ≡ out true e) × (e .store .held ≡ s .held)
-  unfolding eraseN
-  erase-run zero k s chip buf m w h = (dev s chip buf, refl, refl)
-  erase-run (suc n) k s chip buf m w h =
-      let b = blockSize s in
-      let i : k < s .shape .blocks = omega arith in
-      let f : k * b + b ≤ length chip = rw w (block-inside k b (s .shape .blocks) i) in
-      let c = checked-at k s chip buf m i f in
-      let long : length (over (k * b) (blanks b) chip) ≡ length chip =
-      length-over (k * b) (blanks b) chip (rw (length-blanks b) f) in
-      let r = erase-run n (k + 1) (called (called s)) (over (k * b) (blanks b) chip) buf m (long ∙ w) (omega arith) in
-      (r .0, ap (λ (o : Out). andThen o (eraseN l n (k + 1))) c ∙ r .1, r .2)
+  readOut-still : (e : Dev) → Still e → (off : ℕ) (room : List ℕ) → Still (readOut l off room e .told .dev)
+  readOut-still = readOut-keeps Still calls notes l frees
 
-  -- and so is a range, after the flush
-  erase-went : (start size : ℕ) (d : Dev) → Within l d → Inside d start size → (e : Dev) × (erased l start size d ≡ out true e) × (e .store .held ≡ false)
-  erase-went start size d w i =
-      let u = flush-went d w in
-      let f = u .0 in
-      let v = u .4 in
-      let s : Store = noting None (f .store) in
-      let c : f .store .shape .capacity ≡ d .store .shape .capacity = ap (λ (s : Shape). s .capacity) (u .3 .shape) in
-      let end = satAdd start size in
-      let b = blockSize (f .store) in
-      let first = base b start in
-      let last : start + size ≤ f .store .shape .blocks * b = rw (← v .whole) (omega (arith, u .3 .chip, i .short)) in
-      let some : 0 < b = mul-le-mul (v .page-some) (v .pages-some) in
-      let n : start / b + pagesOf b (end - first) ≤ f .store .shape .blocks =
-      range-inside b start end (f .store .shape .blocks) some (omega arith) (omega arith) in
-      let r = erase-run (pagesOf b (end - first)) (start / b) s (f .chip) (f .buf) (v .marked) (v .whole) n in
-      let o = range-done l start size (dev s (f .chip) (f .buf)) end refl (start / b) (first) (omega (arith, i .low)) refl refl (sym (r .1)) in
-      (r .0, sym (erased-done l start size d (sym (u .1)) refl refl o), r .2 ∙ u .2)
+  -- with a page held
+  abbrev Trying : Dev → Type 0
+  Trying e = Still e × (e .store .held ≡ true)
 
-  -- an erase of a range below the capacity and below the chip's end succeeds
-  pub erase-ok : (start size : ℕ) (d : Dev) → Within l d → Inside d start size → erased l start size d .ok ≡ true
-  erase-ok start size d w i = ap (λ (o : Out). o .ok) (erase-went start size d w i .1)
+  trying-calls : (e f : Dev) → Call e f → Trying e → Trying f
+  trying-calls e f c s = (calls e f c (s .0), ap (λ (x : Store). x .held) (c .number) ∙ s .1)
 
-  -- and leaves such a state
-  pub erase-within : (start size : ℕ) (d : Dev) → Within l d → Inside d start size → Within l (erased l start size d .dev)
-  erase-within start size d w i =
-      let u = erase-went start size d w i in
-      free-within l d (erased l start size d .dev) (erased-kept l d start size) (ap (λ (o : Out). o .dev .store .held) (u .1) ∙ u .2) w
+  trying-notes : (x : Erased) (e : Dev) → Trying e → Trying (remember x e)
+  trying-notes x e s = (notes x e (s .0), s .1)
+
+  -- what a try to flush the page leaves: where it failed, no block is remembered
+  abbrev Left : Out → Type 0
+  Left o = Trying (o .dev) × (o .ok ≡ false → o .dev .store .erased ≡ None)
+
+  ready-left : (k : ℕ) (e : Dev) → Trying e → Left (ready l k e)
+  unfolding ready
+  ready-left k e s = go (isErased (e .store .erased) k) (x .ok)
+    where
+      x : Out
+      x = eraseChecked l k e
+
+      i : Trying (x .dev)
+      i = checked-keeps Trying trying-calls trying-notes l k e s
+
+      go : (b c : Bool) → Left (cond b (out true e) (cond c (out true (remember (Block k) (x .dev))) (out false (remember None (x .dev)))))
+      go true c = (s, λ z. false-true (sym z))
+      go false true = (trying-notes (Block k) (x .dev) i, λ z. false-true (sym z))
+      go false false = (trying-notes None (x .dev) i, λ z. refl)
+
+  burns-left : (e : Dev) → Trying e → Left (burns l e)
+  unfolding burns
+  burns-left e s = go (w .ok) refl
+    where
+      w : Out
+      w = programPage (l .faults) (e .store .at) (pageOf e) e
+
+      i : Trying (w .dev)
+      i = trying-calls e (w .dev) (page-call (l .faults) (e .store .at) (pageOf e) e) s
+
+      go : (b : Bool) → w .ok ≡ b → Left (cond b w (out false (remember None (w .dev))))
+      go true u = (i, λ z. false-true (sym z ∙ u))
+      go false u = (trying-notes None (w .dev) i, λ z. refl)
+
+  attempt-left : (e : Dev) → Trying e → Left (attempt l e)
+  unfolding attempt
+  attempt-left e s = go (r .ok)
+    where
+      r : Out
+      r = ready l (blockOf e) e
+
+      go : (b : Bool) → Left (cond b (burns l (r .dev)) r)
+      go true = burns-left (r .dev) (ready-left (blockOf e) e s .0)
+      go false = ready-left (blockOf e) e s
+
+  -- ---- where a step of it fails there is a reason
+
+  -- the counter is within its numbers
+  module _ (most : d .store .calls ≤ 18446744073709551615) where
+    -- what failed has a reason
+    abbrev Fair : Out → Type 0
+    Fair o = o .ok ≡ false → Reason l Asks d (o .dev)
+
+    -- a reason stays one
+    later : {e f : Dev} → e .store .calls ≤ f .store .calls → Reason l Asks d e → Reason l Asks d f
+    later h (error x) = error (failed-wide (le-refl (d .store .calls)) h x)
+    later h (bad k a m n) = bad k a m n
+
+    -- what succeeds has none to give
+    done : (o : Out) → o .ok ≡ true → Fair o
+    done o t e = false-true (sym e ∙ t)
+
+    -- one after the other
+    next-fair : (o : Out) (f : Dev → Out) → Fair o → (o .ok ≡ true → Fair (f (o .dev))) → Fair (andThen o f)
+    next-fair o f h k = go (o .ok) refl
+      where
+        go : (b : Bool) → o .ok ≡ b → Fair (cond b (f (o .dev)) o)
+        go true t = k t
+        go false t = h
+
+    -- a chip call that succeeds unless its number is told to fail
+    call-fair : (e : Dev) (o : Out) → Still e → Call e (o .dev) → (failing (l .faults) (e .store .calls) ≡ false → o .ok ≡ true) → Fair o
+    call-fair e o s c well t = go (failing (l .faults) (e .store .calls)) refl
+      where
+        go : (b : Bool) → failing (l .faults) (e .store .calls) ≡ b → Reason l Asks d (o .dev)
+        go true u =
+            let n : o .dev .store .calls ≡ nextCall (e .store .calls) = ap (λ (x : Store). x .calls) (c .number) in
+            error (record { number = e .store .calls; after = s .kept .calls most .0; before = omega arith; fails = u })
+        go false u = false-true (sym t ∙ well u)
+
+    -- a question about a block
+    asks-fair : (k : ℕ) (e : Dev) → Still e → Asks k → k < length (l .marks) → Fair (asksGood l k e)
+    asks-fair k e s a h = go (eqb (getD (l .marks) k 0) 255) refl
+      where
+        go : (b : Bool) → eqb (getD (l .marks) k 0) 255 ≡ b → Fair (asksGood l k e)
+        go true u =
+            call-fair e (asksGood l k e) s (asks-call l k e)
+            (λ q. ap (λ (o : Out). o .ok) (asks-good l (e .store) (e .chip) (e .buf) q k (eqb-true (getD (l .marks) k 0) 255 u)))
+        go false u = λ t. bad k a h (eqb-false (getD (l .marks) k 0) 255 u)
+
+    -- a checked erase of a block on the chip
+    checked-fair : (k : ℕ) (e : Dev) → Still e → Asks k → k < e .store .shape .blocks → Fair (eraseChecked l k e)
+    unfolding eraseChecked
+    checked-fair k e s a h =
+        let x : Dev = asksGood l k e .dev in
+        let i : Still x = calls e x (asks-call l k e) s in
+        let n : x .store .shape .blocks ≡ e .store .shape .blocks = ap (λ (y : Store). y .shape .blocks) (asks-call l k e .number) in
+        let f : k * blockSize (x .store) + blockSize (x .store) ≤ length (x .chip) = rw (i .within .whole) (block-inside k (blockSize (x .store)) (x .store .shape .blocks) (omega arith)) in
+        rw (lt-ltb k (e .store .shape .blocks) h)
+        (next-fair (asksGood l k e) (eraseBlock (l .faults) k) (asks-fair k e s a (rw (s .within .marked) h))
+        (λ t. call-fair x (eraseBlock (l .faults) k x) i (erase-call (l .faults) k x) (λ q. ap (λ (o : Out). o .ok) (erase-good l (x .store) (x .chip) (x .buf) q k f))))
+
+    -- ---- flush
+
+    -- the held page is 0xFF on the chip
+    abbrev Blank : Dev → Type 0
+    Blank e = take (length (pageOf e)) (drop (e .store .at) (e .chip)) ≡ blanks (length (pageOf e))
+
+    -- a page programmed where it is blank
+    burns-fair : (e : Dev) → Trying e → Blank e → Fair (burns l e)
+    unfolding burns
+    burns-fair e s blank = go (w .ok) refl
+      where
+        w : Out
+        w = programPage (l .faults) (e .store .at) (pageOf e) e
+
+        fair : Fair w
+        fair =
+            call-fair e w (s .0) (page-call (l .faults) (e .store .at) (pageOf e) e)
+            (λ q. ap (λ (o : Out). o .ok) (page-good l (e .store) (e .chip) (e .buf) q (e .store .at) (pageOf e) (s .0 .within .bytes (s .1)) (page-fits l e (s .0 .within) (s .1)) blank))
+
+        go : (b : Bool) → w .ok ≡ b → Fair (cond b w (out false (remember None (w .dev))))
+        go true u = fair
+        go false u = λ z. later (le-refl (w .dev .store .calls)) (fair u)
+
+    -- a try to flush into a block that has to be erased first
+    attempt-fair : (e : Dev) → Trying e → e .store .erased ≡ None → Fair (attempt l e)
+    unfolding attempt ready
+    attempt-fair e s none = rw (ap (λ (y : Erased). isErased y k) none ∙ none-erased k) (go (x .ok) refl)
+      where
+        k : ℕ
+        k = blockOf e
+
+        x : Out
+        x = eraseChecked l k e
+
+        go : (b : Bool) → x .ok ≡ b → Fair (andThen (cond b (out true (remember (Block k) (x .dev))) (out false (remember None (x .dev)))) (burns l))
+        go true u =
+            burns-fair (remember (Block k) (x .dev)) (trying-notes (Block k) (x .dev) (checked-keeps Trying trying-calls trying-notes l k e s))
+            (subst (λ (y : Dev). Blank (remember (Block k) y)) (sym (checked-was l k e (block-on l e (s .0 .within) (s .1)) u)) (blanked-page l e (s .0 .within) (s .1)))
+        go false u = λ z. later (le-refl (x .dev .store .calls)) (checked-fair k e (s .0) (s .0 .asks (s .1)) (block-on l e (s .0 .within) (s .1)) u)
+
+    -- a flush: where it fails, so did its second try, which had to erase the block
+    flushes-fair : (e : Dev) → Still e → Fair (flushes l e)
+    unfolding flushes
+    flushes-fair e s = go (e .store .held) refl
+      where
+        a : Out
+        a = attempt l e
+
+        f : Dev → Out
+        f w = out true (dev (freed (w .store)) (w .chip) (w .buf))
+
+        again : e .store .held ≡ true → (b : Bool) → a .ok ≡ b → Fair (cond b a (attempt l (a .dev)))
+        again t true u = done a u
+        again t false u = let x = attempt-left e (s, t) in attempt-fair (a .dev) (x .0) (x .1 u)
+
+        go : (b : Bool) → e .store .held ≡ b → Fair (cond b (andThen (orElse a (attempt l)) f) (out true e))
+        go true t = next-fair (orElse a (attempt l)) f (again t (a .ok) refl) (λ u. done (f (orElse a (attempt l) .dev)) refl)
+        go false t = done (out true e) refl
+
+    -- the flush that a caller asks for
+    flushed-fair : (e : Dev) → Still e → Fair (flushed l e)
+    unfolding flushed
+    flushed-fair e s = next-fair (flushes l e) (λ f. out true (remember None f)) (flushes-fair e s) (λ t. done (out true (remember None (flushes l e .dev))) refl)
+
+    -- ---- read
+
+    -- a read gives as many bytes as there is room, or there is a reason
+    read-fair : (off : ℕ) (room : List ℕ) (e : Dev) → Still e → Inside e off (length room)
+        → (readOut l off room e .told .count ≡ length room) ⊎ Reason l Asks d (readOut l off room e .told .dev)
+    read-fair off room e s i = flush-first (f .ok) refl
+      where
+        f : Out
+        f = flushes l e
+
+        Whole : Seen → Type 0
+        Whole x = (x .told .count ≡ length room) ⊎ Reason l Asks d (x .told .dev)
+
+        k : Kept e (f .dev)
+        k = flushes-kept l e
+
+        c : f .dev .store .shape .capacity ≡ e .store .shape .capacity
+        c = ap (λ (x : Shape). x .capacity) (k .shape)
+
+        some : f .ok ≡ true → (n : ℕ) → n ≡ length room → Whole (readOut l off room e)
+        some u zero q = let m : 0 ≡ min (length room) (f .dev .store .shape .capacity - off) = omega arith in subst Whole (read-none l off room e refl u 0 m refl) (inl q)
+        some u (suc m) q =
+            let n : ℕ = suc m in
+            let j : n ≡ min (length room) (f .dev .store .shape .capacity - off) = omega (arith, c, i .low) in
+            let t : length (take n room) ≡ n = length-take-le n room (omega arith) in
+            let b : off + length (take n room) ≤ length (f .dev .chip) = omega (arith, k .chip, i .short) in
+            let z : suc m ≡ 0 → ⊥ = λ e. omega arith in
+            let g = fetched (l .faults) off (f .dev .store) (f .dev .chip) (take n room) in
+            let h = dev (g .store) (f .dev .chip) (f .dev .buf) in
+            let fair : Fair (out (g .ok) h) =
+            call-fair (f .dev) (out (g .ok) h) (flushes-still e s) (record { number = fetched-number (l .faults) off (f .dev .store) (f .dev .chip) (take n room); buf = refl; size = refl })
+            (λ q. ap (λ (x : Got). x .ok) (fetched-well (l .faults) (f .dev .store) (f .dev .chip) q off (take n room) b)) in
+            subst Whole (read-told l off room e refl u n j z refl refl) (answered (g .ok) n h q fair)
+          where
+            answered : (b : Bool) (n : ℕ) (h : Dev) → n ≡ length room → Fair (out b h) → (cond b n 0 ≡ length room) ⊎ Reason l Asks d h
+            answered true n h q fair = inl q
+            answered false n h q fair = inr (fair refl)
+
+        flush-first : (b : Bool) → f .ok ≡ b → Whole (readOut l off room e)
+        flush-first true u = some u (length room) refl
+        flush-first false u = subst Whole (read-unflushed l off room e refl u) (inr (flushes-fair e s u))
+
+    -- ---- erase
+
+    -- n blocks from block k on
+    eraseN-fair : (n k : ℕ) (e : Dev) → Still e → k + n ≤ d .store .shape .blocks → ((j : ℕ) → k ≤ j → j < k + n → Asks j) → Fair (eraseN l n k e)
+    unfolding eraseN
+    eraseN-fair zero k e s h a = done (out true e) refl
+    eraseN-fair (suc n) k e s h a =
+        let m : e .store .shape .blocks ≡ d .store .shape .blocks = ap (λ (x : Shape). x .blocks) (s .kept .shape) in
+        next-fair (eraseChecked l k e) (eraseN l n (k + 1)) (checked-fair k e s (a k (le-refl k) (omega arith)) (omega arith))
+        (λ t. eraseN-fair n (k + 1) (eraseChecked l k e .dev) (checked-keeps Still calls notes l k e s) (omega arith) (λ j x y. a j (omega arith) (omega arith)))
+
+    module _ (start size : ℕ) (i : Inside d start size) (touches : (k : ℕ) → Touched d start size k → Asks k) where
+      -- the blocks of a range
+      range-fair : (e : Dev) → Still e → Fair (eraseRange l start size e)
+      unfolding eraseRange
+      range-fair e s =
+          let b = blockSize (e .store) in
+          let end = satAdd start size in
+          let n = pagesOf b (end - base b start) in
+          let q : b ≡ blockSize (d .store) = ap (λ (x : Shape). x .page * x .pages) (s .kept .shape) in
+          let c : e .store .shape .capacity ≡ d .store .shape .capacity = ap (λ (x : Shape). x .capacity) (s .kept .shape) in
+          let m : e .store .shape .blocks ≡ d .store .shape .blocks = ap (λ (x : Shape). x .blocks) (s .kept .shape) in
+          let some : 0 < b = mul-le-mul (s .within .page-some) (s .within .pages-some) in
+          let last : start + size ≤ e .store .shape .blocks * b = rw (← s .within .whole) (omega (arith, s .kept .chip, i .short)) in
+          let most : start / b + n ≤ e .store .shape .blocks = range-inside b start end (e .store .shape .blocks) some (omega arith) (omega arith) in
+          rw (le-leb end (e .store .shape .capacity) (omega (arith, i .low)))
+          (eraseN-fair n (start / b) e s (omega arith)
+          (λ j x y. touches j (subst (λ (z : ℕ). (start / z ≤ j) × (j * z < start + size)) q (x, range-touches b start end (start + size) j some (omega arith) (omega arith) y))))
+
+      -- after the flush
+      erased-fair : (e : Dev) → Still e → Fair (erased l start size e)
+      unfolding erased
+      erased-fair e s =
+          next-fair (flushes l e) (λ f. eraseRange l start size (remember None f)) (flushes-fair e s)
+          (λ t. range-fair (remember None (flushes l e .dev)) (notes None (flushes l e .dev) (flushes-still e s)))
 
   -- ---- write
 
-  -- a byte set in the page buffer
-  set-within : (i x : ℕ) (d : Dev) → i < d .store .shape .page → x < 256 → Within l d → Within l (dev (d .store) (d .chip) (set (d .buf) i x))
-  set-within i x d h k w =
-      record {
-        page-some = w .page-some;
-        pages-some = w .pages-some;
-        marked = w .marked;
-        whole = w .whole;
-        room = rw (length-set (d .buf) i x) (w .room);
-        on = w .on;
-        below = w .below;
-        bytes = λ t. subst (λ (ys : List ℕ). Bytes ys) (sym (take-set-lt (d .store .shape .page) (d .buf) i x h)) (bytes-set (pageOf d) i x k (w .bytes t));
-      }
+  -- what a write leaves
+  abbrev Wrote : Run → Type 0
+  Wrote o = Still (o .dev) × (d .store .calls ≤ 18446744073709551615 → o .ok ≡ false → Reason l Asks d (o .dev))
 
-  -- a page of 0xFF begun for an address within the chip
-  begin-within : (a : ℕ) (f : Dev) → Within l f → a < length (f .chip)
-      → Within l (let p = f .store .shape .page in dev (holding (base p a) (f .store)) (f .chip) (blanks p ++ drop p (f .buf)))
-  begin-within a f w h =
-      let p = f .store .shape .page in
-      let long : length (blanks p ++ drop p (f .buf)) ≡ length (f .buf) = length-front (f .buf) (blanks p) p (length-blanks p ∙ sym (length-take-le p (f .buf) (w .room))) in
-      record {
-        page-some = w .page-some;
-        pages-some = w .pages-some;
-        marked = w .marked;
-        whole = w .whole;
-        room = rw long (w .room);
-        on = λ t. ap (λ (n : ℕ). n % f .store .shape .page) (sym (start-is (f .store .shape .page) a)) ∙ mul-mod-left (a / f .store .shape .page) (f .store .shape .page);
-        below = λ t. omega arith;
-        bytes = λ t. subst (λ (ys : List ℕ). Bytes ys) (sym (take-at (blanks p) (drop p (f .buf)) p (length-blanks p))) (bytes-blanks p);
-      }
+  -- bytes of a range whose blocks it may ask about
+  module _ (off n : ℕ) (i : Inside d off n) (touches : (k : ℕ) → Touched d off n k → Asks k) (room : d .store .shape .page ≤ length (d .buf)) where
+    -- a page of the range begun
+    begins-still : (a : ℕ) (e : Dev) → off ≤ a → a < off + n → Still e → Still (begins (base (d .store .shape .page) a) e)
+    unfolding begins
+    begins-still a e h k s =
+        let p = d .store .shape .page in
+        let b = blockSize (d .store) in
+        let q : e .store .shape .page ≡ p = ap (λ (x : Shape). x .page) (s .kept .shape) in
+        let low : a / b * b ≤ a = div-mul-le-self a b in
+        let some : 0 < p = omega (arith, s .within .page-some) in
+        let pages : e .store .shape .pages ≡ d .store .shape .pages = ap (λ (x : Shape). x .pages) (s .kept .shape) in
+        let size : 0 < b = mul-le-mul some (rw pages at (s .within .pages-some)) in
+        let first : off / b ≤ a / b = le-div-iff-mul-le {k = b} {x = off / b} {y = a} size .1 (omega (arith, div-mul-le-self off b)) in
+        let x : Asks (base p a / b) = subst Asks (sym (page-block a p (d .store .shape .pages) some)) (touches (a / b) (first, omega arith)) in
+        record {
+          within = begin-within l p a e q (s .within) (omega (arith, s .kept .chip, i .short));
+          kept = begun d room a e (omega (arith, i .low)) (s .kept);
+          asks = λ z. subst (λ (y : Shape). Asks (base p a / (y .page * y .pages))) (sym (s .kept .shape)) x;
+        }
 
-  -- what a part of a write from d to e leaves of the sizes
-  abbrev Sizes : Dev → Dev → Type 0
-  Sizes d e = (e .store .shape ≡ d .store .shape) × (length (e .chip) ≡ length (d .chip))
+    module _ (a : ℕ) (e : Dev) (s : Still e) where
+      -- the page of an address, brought in
+      loads-still : off ≤ a → a < off + n → Still (loads l (d .store .shape .page) a e .dev)
+      unfolding loads
+      loads-still h k =
+          let b = base (d .store .shape .page) a in
+          let f : Dev → Out = λ x. out true (begins b x) in
+          either Still (holds (e .store) b) (out true e) (andThen (flushes l e) f) s (next Still (flushes l e) f (flushes-still e s) (λ x y. begins-still a x h k y))
 
-  -- the page of an address within the chip is brought in
-  load-go : (p a : ℕ) (d : Dev) (b : Bool) → holds (d .store) (base p a) ≡ b → p ≡ d .store .shape .page → a < length (d .chip) → Within l d
-      → (e : Dev) × (loads l p a d ≡ out true e) × Sizes d e × Within l e
-  load-go p a d true h q k w = (d, sym (load-held l p a d h), (refl, refl), w)
-  load-go p a d false h q k w =
-      let u = flush-went d w in
-      let f = u .0 in
-      let r : p ≡ f .store .shape .page = q ∙ ap (λ (s : Shape). s .page) (sym (u .3 .shape)) in
-      let n = f .store .shape .page in
-      let o = load-done l p a d (base n a) (ap (λ (j : ℕ). base j a) (sym r)) (ap (λ (j : ℕ). holds (d .store) (base j a)) (sym r) ∙ h) (sym (u .1)) n refl refl refl in (
-        dev (holding (base n a) (f .store)) (f .chip) (blanks n ++ drop n (f .buf)),
-        sym o,
-        (u .3 .shape, u .3 .chip),
-        begin-within a f (u .4) (omega (arith, u .3 .chip)),
-      )
+      loads-fair : (most : d .store .calls ≤ 18446744073709551615) → Fair most (loads l (d .store .shape .page) a e)
+      unfolding loads
+      loads-fair most = go (holds (e .store) b)
+        where
+          b : ℕ
+          b = base (d .store .shape .page) a
 
-  -- so is a byte written
-  step-within : (p a x : ℕ) (d : Dev) → p ≡ d .store .shape .page → a < length (d .chip) → x < 256 → Within l d
-      → (e : Dev) × (step p (loads l p) stays (run true a d) x ≡ run true (a + 1) e) × Sizes d e × Within l e
-  unfolding seals stays
-  step-within p a x d q k h w =
-      let u = load-go p a d (holds (d .store) (base p a)) refl q k w in
-      let e = u .0 in
-      let r : p ≡ e .store .shape .page = q ∙ ap (λ (s : Shape). s .page) (sym (u .2 .0)) in
-      let i : a % p < e .store .shape .page = omega (arith, mod-lt a (u .3 .page-some), ap (λ (j : ℕ). a % j) r) in
-      (dev (e .store) (e .chip) (set (e .buf) (a % p) x), loaded-step p (loads l p) stays a d (sym (u .1)) x refl, u .2, set-within (a % p) x e i h (u .3))
+          f : Dev → Out
+          f x = out true (begins b x)
 
-  -- and bytes one after the other
-  writes-within : (xs : List ℕ) (p a : ℕ) (d : Dev) → p ≡ d .store .shape .page → a + length xs ≤ length (d .chip) → Bytes xs → Within l d
-      → (e : Dev) × (writes p (loads l p) stays xs (run true a d) ≡ run true (a + length xs) e) × Within l e
-  unfolding writes
-  writes-within [] p a d q k h w = (d, rw add-zero, w)
-  writes-within (x ∷ xs) p a d q k h w =
-      let u = step-within p a x d q (omega arith) (h 0) w in
-      let n : a + 1 + length xs ≡ a + suc (length xs) = omega arith in
-      let b : a + 1 + length xs ≤ length (u .0 .chip) = omega (arith, u .2 .1) in
-      let r = writes-within xs p (a + 1) (u .0) (q ∙ ap (λ (s : Shape). s .page) (sym (u .2 .0))) b (λ i. h (suc i)) (u .3) in
-      (r .0, ap (λ (o : Run). writes p (loads l p) stays xs o) (u .1) ∙ r .1 ∙ ap (λ (j : ℕ). run true j (r .0)) n, r .2)
+          go : (t : Bool) → Fair most (cond t (out true e) (andThen (flushes l e) f))
+          go true = done most (out true e) refl
+          go false = next-fair most (flushes l e) f (flushes-fair most e s) (λ u. done most (f (flushes l e .dev)) refl)
 
-  -- and so as a write, where they fit below the capacity
-  write-went : (off : ℕ) (xs : List ℕ) (d : Dev) → Within l d → Inside d off (length xs) → Bytes xs → (e : Dev) × (written l off xs d ≡ told 0 (length xs) e) × Within l e
-  write-went off xs d w i h =
-      let u = writes-within xs (d .store .shape .page) off d refl (i .short) h w in
-      let n : off + length xs - off ≡ length xs = omega arith in
-      (u .0, sym (written-told l off xs d (i .low) (sym (u .1))) ∙ ap (λ (j : ℕ). told 0 j (u .0)) n, u .2)
+    -- bytes of the range one after the other
+    writes-fair : (xs : List ℕ) (a : ℕ) (e : Dev) → off ≤ a → a + length xs ≤ off + n → Bytes xs → Still e
+        → Wrote (writes (d .store .shape .page) (loads l (d .store .shape .page)) stays xs (run true a e))
+    unfolding writes step seals stays
+    writes-fair [] a e h k b s = (s, λ most z. false-true (sym z))
+    writes-fair (x ∷ xs) a e h k b s = go (writes-fair xs (a + 1) z (omega arith) (omega arith) (λ j. b (suc j)) next-byte) (y .ok) refl
+      where
+        p : ℕ
+        p = d .store .shape .page
 
-  -- a write of bytes below the capacity and below the chip's end counts all of them
-  pub write-whole : (off : ℕ) (xs : List ℕ) (d : Dev) → Within l d → Inside d off (length xs) → Bytes xs → written l off xs d .count ≡ length xs
-  write-whole off xs d w i h = ap (λ (t : Told). t .count) (write-went off xs d w i h .1)
+        y : Out
+        y = loads l p a e
 
-  -- and leaves such a state
-  pub write-within : (off : ℕ) (xs : List ℕ) (d : Dev) → Within l d → Inside d off (length xs) → Bytes xs → Within l (written l off xs d .dev)
-  write-within off xs d w i h = let u = write-went off xs d w i h in subst (λ (t : Told). Within l (t .dev)) (sym (u .1)) (u .2)
+        came : Still (y .dev)
+        came = loads-still a e s h (omega arith)
 
--- ---- that what is asked can be met
+        z : Dev
+        z = dev (y .dev .store) (y .dev .chip) (set (y .dev .buf) (a % p) x)
 
--- as with what every call tests before it does anything, where a held page lies within the chip and the buffer holds bytes
-pub sound-within : (l : Lent) (d : Dev) → good l d ≡ true → d .store .shape .kind ≡ Nand → (d .store .held ≡ true → d .store .at < length (d .chip)) → Bytes (d .buf)
-    → Within l d
-unfolding good
-sound-within l d t k b h =
-    let s = sound (d .store) (length (d .chip)) (length (l .marks)) (length (d .buf)) t in
-    let n = s .nand k in
-    record {
-      page-some = omega (arith, n .numbers .page-low);
-      pages-some = omega (arith, n .numbers .pages-low);
-      marked = n .marks-are;
-      whole = n .chip-is ∙ mul-comm (d .store .shape .page * d .store .shape .pages) (d .store .shape .blocks);
-      room = omega (arith, n .numbers .page-high, s .room);
-      on = λ e. ap (λ (x : Kind). d .store .at % byKind x 4096 (d .store .shape .page)) (sym k) ∙ s .held-start e;
-      below = b;
-      bytes = λ e. bytes-take (d .store .shape .page) (d .buf) h;
-    }
+        next-byte : Still z
+        next-byte =
+            let q : y .dev .store .shape .page ≡ p = ap (λ (t : Shape). t .page) (came .kept .shape) in
+            let j : a % p < y .dev .store .shape .page = omega (arith, mod-lt a (rw q at (came .within .page-some))) in
+            record { within = set-within l (a % p) x (y .dev) j (b 0) (came .within); kept = with-byte d (a % p) x (y .dev) (came .kept); asks = came .asks }
 
--- as with a store that holds nothing, whatever block was erased last, over any chip of its size
-pub within-free : (page pages blocks capacity stage device : ℕ) (e : Erased) (chip buf : List ℕ) → 0 < page → 0 < pages → length chip ≡ blocks * (page * pages) → page ≤ length buf
-    → Within (lent [] (blanks blocks)) (dev (noting e (nandStore page pages blocks capacity stage device)) chip buf)
-within-free page pages blocks capacity stage device e chip buf h k c r =
-    record {
-      page-some = h;
-      pages-some = k;
-      marked = length-blanks blocks;
-      whole = c;
-      room = r;
-      on = λ t. false-true t;
-      below = λ t. false-true t;
-      bytes = λ t. false-true t;
-    }
+        go : Wrote (writes p (loads l p) stays xs (run true (a + 1) z)) → (t : Bool) → y .ok ≡ t
+            → Wrote (writes p (loads l p) stays xs (cond t (run true (a + 1) z) (run false a (y .dev))))
+        go rest true u = rest
+        go rest false u = rw (stopped p (loads l p) stays xs a (y .dev)) (came, λ most t. loads-fair a e s most u)
 
--- two good blocks of two pages of four bytes
+-- ---- the theorems
+
+-- succeeded or failed
+either-way : {R : Type 0} (b : Bool) → (b ≡ false → R) → (b ≡ true) ⊎ R
+either-way true h = inl refl
+either-way false h = inr (h refl)
+
+module _ (l : Lent) (d : Dev) (w : Within l d) where
+  -- a call that has only started
+  here : (Asks : ℕ → Type 0) → ((k : ℕ) → Held d k → Asks k) → Still l Asks d d
+  here Asks h = record { within = w; kept = kept-refl d; asks = λ t. h (blockOf d) (t, refl) }
+
+  about-held : Still l (Held d) d d
+  about-held = here (Held d) (λ k h. h)
+
+  about-range : (off n : ℕ) → Still l (HeldOrTouched d off n) d d
+  about-range off n = here (HeldOrTouched d off n) (λ k h. inl h)
+
+  -- the bytes of a write, under way
+  wrote : (off : ℕ) (xs : List ℕ) → Inside d off (length xs) → Bytes xs
+      → Wrote l (HeldOrTouched d off (length xs)) d (writes (d .store .shape .page) (loads l (d .store .shape .page)) stays xs (run true off d))
+  wrote off xs i b =
+      writes-fair l (HeldOrTouched d off (length xs)) d off (length xs) i (λ k t. inr t) (w .room) xs off d (le-refl off) (le-refl (off + length xs)) b (about-range off (length xs))
+
+  -- ---- whatever happens, the state behind a call is within again
+
+  -- behind the flush inside every call
+  pub flush-within : Within l (flushes l d .dev)
+  flush-within = flushes-still l (Held d) d d about-held .within
+
+  -- behind the flush that a caller asks for
+  pub flushed-within : Within l (flushed l d .dev)
+  flushed-within = flushed-still l (Held d) d d about-held .within
+
+  -- behind a read
+  pub read-within : (off : ℕ) (room : List ℕ) → Within l (readOut l off room d .told .dev)
+  read-within off room = readOut-still l (Held d) d d about-held off room .within
+
+  -- behind an erase
+  pub erase-within : (start size : ℕ) → Within l (erased l start size d .dev)
+  erase-within start size = erased-still l (Held d) d d about-held start size .within
+
+  -- behind a write of bytes below the capacity and below the chip's end
+  pub write-within : (off : ℕ) (xs : List ℕ) → Inside d off (length xs) → Bytes xs → Within l (written l off xs d .dev)
+  write-within off xs i b = subst (λ (t : Told). Within l (t .dev)) (written-told l off xs d (i .low) refl) (wrote off xs i b .0 .within)
+
+  -- ---- a call does all that it is asked, or it met a reason
+
+  module _ (most : d .store .calls ≤ 18446744073709551615) where
+    -- a flush succeeds, or one of its chip calls was told to fail, or the held page's block is marked bad
+    pub flush-or-reason : (flushes l d .ok ≡ true) ⊎ Reason l (Held d) d (flushes l d .dev)
+    flush-or-reason = either-way (flushes l d .ok) (flushes-fair l (Held d) d most d about-held)
+
+    -- and so does the flush that a caller asks for
+    pub flushed-or-reason : (flushed l d .ok ≡ true) ⊎ Reason l (Held d) d (flushed l d .dev)
+    flushed-or-reason = either-way (flushed l d .ok) (flushed-fair l (Held d) d most d about-held)
+
+    -- a read below the capacity and below the chip's end fills all of its room, or one of its chip calls was told to fail, or the held
+    -- page's block is marked bad
+    pub read-or-reason : (off : ℕ) (room : List ℕ) → Inside d off (length room)
+        → (readOut l off room d .told .count ≡ length room) ⊎ Reason l (Held d) d (readOut l off room d .told .dev)
+    read-or-reason off room i = read-fair l (Held d) d most off room d about-held i
+
+    -- an erase of a range below the capacity and below the chip's end succeeds, or one of its chip calls was told to fail, or the held
+    -- page's block or one that the range touches is marked bad
+    pub erase-or-reason : (start size : ℕ) → Inside d start size → (erased l start size d .ok ≡ true) ⊎ Reason l (HeldOrTouched d start size) d (erased l start size d .dev)
+    erase-or-reason start size i =
+        either-way (erased l start size d .ok) (erased-fair l (HeldOrTouched d start size) d most start size i (λ k t. inr t) d (about-range start size))
+
+    -- a write of bytes below the capacity and below the chip's end takes them all, or one of its chip calls was told to fail, or the
+    -- held page's block or one that the bytes touch is marked bad
+    pub write-or-reason : (off : ℕ) (xs : List ℕ) → Inside d off (length xs) → Bytes xs
+        → (written l off xs d .count ≡ length xs) ⊎ Reason l (HeldOrTouched d off (length xs)) d (written l off xs d .dev)
+    write-or-reason off xs i b = subst Whole (written-told l off xs d (i .low) refl) (go (o .ok) refl)
+      where
+        Whole : Told → Type 0
+        Whole t = (t .count ≡ length xs) ⊎ Reason l (HeldOrTouched d off (length xs)) d (t .dev)
+
+        p : ℕ
+        p = d .store .shape .page
+
+        o : Run
+        o = writes p (loads l p) stays xs (run true off d)
+
+        go : (t : Bool) → o .ok ≡ t → Whole (told 0 (o .at - off) (o .dev))
+        go true u = let r : o .at ≡ off + length xs = reached p (loads l p) stays xs off d u in inl (omega arith)
+        go false u = inr (wrote off xs i b .1 most u)
+
+-- ---- examples
+
+-- two blocks of two pages of four bytes
 module _ (e : Erased) (chip buf : List ℕ) (c : length chip ≡ 16) (r : 4 ≤ length buf) where
-  -- the page at 4 is held and blank: it is flushed, whatever block was erased last and whatever the chip holds there
-  pub example-flush : flushes (lent [] (blanks 2)) (dev (holding 4 (noting e (nandStore 4 2 2 16 0 0))) chip (blanks 4 ++ drop 4 buf)) .ok ≡ true
-  example-flush =
-      let w = within-free 4 2 2 16 0 0 e chip buf (omega arith) (omega arith) c r in
-      flush-ok (lent [] (blanks 2)) (good-blank 2) (dev (holding 4 (noting e (nandStore 4 2 2 16 0 0))) chip (blanks 4 ++ drop 4 buf))
-      (begin-within (lent [] (blanks 2)) (good-blank 2) 4 (dev (noting e (nandStore 4 2 2 16 0 0)) chip buf) w (omega arith))
+  free : (l : Lent) → length (l .marks) ≡ 2 → Within l (dev (noting e (nandStore 4 2 2 16 0 0)) chip buf)
+  free l m = within-free l 4 2 2 16 0 0 e chip buf (omega arith) (omega arith) m c r
+
+  -- with the page at 4 held and blank
+  abbrev holds-four : Dev
+  holds-four = dev (holding 4 (noting e (nandStore 4 2 2 16 0 0))) chip (blanks 4 ++ drop 4 buf)
+
+  four : (l : Lent) → length (l .marks) ≡ 2 → Within l holds-four
+  unfolding begins
+  four l m = begin-within l 4 4 (dev (noting e (nandStore 4 2 2 16 0 0)) chip buf) refl (free l m) (omega arith)
+
+  -- on a clean chip it is flushed, whatever block was erased last and whatever the chip holds there
+  pub example-flush : flushes (lent [] (blanks 2)) holds-four .ok ≡ true
+  example-flush = surely (no-reason (good-blank 2)) (flush-or-reason (lent [] (blanks 2)) holds-four (four (lent [] (blanks 2)) (length-blanks 2)) (omega arith))
 
   -- three bytes from address 7 on, over a page's and a block's end, are all written
   pub example-write : written (lent [] (blanks 2)) 7 (1 ∷ 2 ∷ 3 ∷ []) (dev (noting e (nandStore 4 2 2 16 0 0)) chip buf) .count ≡ 3
   example-write =
-      let w = within-free 4 2 2 16 0 0 e chip buf (omega arith) (omega arith) c r in
       let b : Bytes (1 ∷ 2 ∷ 3 ∷ []) = bytes-more 1 (2 ∷ 3 ∷ []) (omega arith) (bytes-more 2 (3 ∷ []) (omega arith) (bytes-more 3 [] (omega arith) (λ i. omega arith))) in
-      write-whole (lent [] (blanks 2)) (good-blank 2) 7 (1 ∷ 2 ∷ 3 ∷ []) (dev (noting e (nandStore 4 2 2 16 0 0)) chip buf) w (record { low = omega arith; short = omega arith }) b
+      surely (no-reason (good-blank 2))
+      (write-or-reason (lent [] (blanks 2)) (dev (noting e (nandStore 4 2 2 16 0 0)) chip buf) (free (lent [] (blanks 2)) (length-blanks 2)) (omega arith)
+      7 (1 ∷ 2 ∷ 3 ∷ []) (record { low = omega arith; short = omega arith }) b)
+
+  -- call 0 is told to fail, and block 1 is marked bad
+  abbrev flawed : Lent
+  flawed = lent (1 ∷ 0 ∷ []) (255 ∷ 0 ∷ [])
+
+  later-quiet : (n : ℕ) → 1 ≤ n → failing (1 ∷ 0 ∷ []) n ≡ false
+  unfolding failing
+  later-quiet n h = let m : min n 1 ≡ 1 = omega arith in rw m
+
+  -- call 0 is over, and the page at 4 lies in block 0
+  abbrev one-call-on : Dev
+  one-call-on = dev (called (holds-four .store)) (holds-four .chip) (holds-four .buf)
+
+  no-flaw-met : {f : Dev} → Reason flawed (Held one-call-on) one-call-on f → ⊥
+  no-flaw-met (error x) = false-true (sym (later-quiet (x .number) (x .after)) ∙ x .fails)
+  no-flaw-met (bad k h m n) = n (ap (λ (j : ℕ). getD (255 ∷ 0 ∷ []) j 0) (h .1))
+
+  -- so it is flushed, though the lists are not clean
+  pub example-flaws-elsewhere : flushes flawed one-call-on .ok ≡ true
+  example-flaws-elsewhere =
+      surely no-flaw-met
+      (flush-or-reason flawed one-call-on (within-as flawed holds-four one-call-on refl refl refl refl (λ t. t) (four flawed refl)) (omega arith))
