@@ -1,4 +1,7 @@
+pub mod Steps
 pub mod Kept
+pub mod Counted
+pub mod Faults
 pub mod View
 pub mod Stream
 pub mod Full
