@@ -23,7 +23,7 @@ made-steps d top =
     record {
       called = λ e f c m. (suc (m .0), call (m .1) c);
       freed = λ e m. (m .0, aside (m .1) refl refl);
-      holding = λ a e z l m. (m .0, aside (m .1) refl refl);
+      holding = λ a e z l i m. (m .0, aside (m .1) refl refl);
       buffer = λ b e q m. (m .0, aside (m .1) refl refl);
     }
 

@@ -54,7 +54,7 @@ module _ (d : Dev) where
       record {
         called = called-kept;
         freed = λ e k. record { shape = k .shape; erased = k .erased; chip = k .chip; buf = k .buf; calls = k .calls; on = λ h t. false-true t };
-        holding = λ a e z l k.
+        holding = λ a e z l i k.
             let q : e .store .shape .capacity ≡ d .store .shape .capacity = ap (λ (s : Shape). s .capacity) (k .shape) in
             record { shape = k .shape; erased = k .erased; chip = k .chip; buf = k .buf; calls = k .calls; on = λ h t. (z, omega arith) };
         buffer = λ b e q k. record { shape = k .shape; erased = k .erased; chip = k .chip; buf = q ∙ k .buf; calls = k .calls; on = k .on };

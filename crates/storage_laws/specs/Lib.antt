@@ -3,6 +3,7 @@ pub mod Kept
 pub mod Counted
 pub mod Faults
 pub mod View
+pub mod Shown
 pub mod Stream
 pub mod Full
 pub mod Whole

@@ -7,31 +7,36 @@ use Prim.Native.Nat.{ℕ, zero, suc, _+_, _-_, _%_, _≤_, _<_, min}
 use native.Mathlib.Omega.{arith}
 use borrow.Author.Tests.{leb-true}
 use lib.Dec.{leb, eqb}
-use lib.ListN.{length, take, drop, length-set}
+use lib.ListN.{length, take, drop, length-take, length-set}
 use lib.Seq.{length-front}
 use Rattle.storage.specs.World.{Dev, dev, Out, out, andThen, told, seen}
-use Rattle.storage.specs.Chip.{fetched}
+use Rattle.storage.specs.Chip.{able, called, got, fetched}
 use Rattle.storage.specs.Fold.{run, base, writes}
 use Rattle.storage.specs.Nor.{eraseSector, writeBytes, freed, holding, holds, flushes, reads, loads, closes, written, eraseN, pagesOf, satAdd, erased, readOut}
+use Rattle.storage.proofs.Chips.{able-fits}
 use Rattle.storage.proofs.Programs.{Call, fetched-number, fetched-length}
 use Rattle.storage.proofs.Sectors.{erase-call, write-call}
+use Rattle.storage.proofs.Fold.{false-true}
 use Rattle.storage.proofs.Along.{writes-along}
 
--- P is kept by each step, where sectors are held below the address `top`
+-- P is kept by each step, where sectors are held below the address `top`, and each after it was read from within the chip
 pub record Steps (P : Dev → Type 0) (top : ℕ) : Type 0 where
   pub called : (d e : Dev) → Call d e → P d → P e
   pub freed : (d : Dev) → P d → P (dev (freed (d .store)) (d .chip) (d .buf))
-  pub holding : (a : ℕ) (d : Dev) → a % 4096 ≡ 0 → a < top → P d → P (dev (holding a (d .store)) (d .chip) (d .buf))
+  pub holding : (a : ℕ) (d : Dev) → a % 4096 ≡ 0 → a < top → a + min 4096 (length (d .buf)) ≤ length (d .chip) → P d → P (dev (holding a (d .store)) (d .chip) (d .buf))
   pub buffer : (b : List ℕ) (d : Dev) → length b ≡ length (d .buf) → P d → P (dev (d .store) (d .chip) b)
 
 -- ---- one step after another
 
-then-along : (P : Dev → Type 0) (o : Out) (f : Dev → Out) → P (o .dev) → ((e : Dev) → P e → P (f e .dev)) → P (andThen o f .dev)
-then-along P o f k g = go (o .ok)
+then-went : (P : Dev → Type 0) (o : Out) (f : Dev → Out) → P (o .dev) → (o .ok ≡ true → P (f (o .dev) .dev)) → P (andThen o f .dev)
+then-went P o f k g = go (o .ok) refl
   where
-    go : (b : Bool) → P ((cond b (f (o .dev)) o) .dev)
-    go true = g (o .dev) k
-    go false = k
+    go : (b : Bool) → o .ok ≡ b → P ((cond b (f (o .dev)) o) .dev)
+    go true t = g t
+    go false t = k
+
+then-along : (P : Dev → Type 0) (o : Out) (f : Dev → Out) → P (o .dev) → ((e : Dev) → P e → P (f e .dev)) → P (andThen o f .dev)
+then-along P o f k g = then-went P o f k (λ t. g (o .dev) k)
 
 either-along : (P : Dev → Type 0) (b : Bool) (o p : Out) → P (o .dev) → P (p .dev) → P ((cond b o p) .dev)
 either-along P true o p h k = h
@@ -40,6 +45,16 @@ either-along P false o p h k = k
 -- a chip read is a chip call that leaves chip and buffer
 fetch-call : (F : List ℕ) (a : ℕ) (room : List ℕ) (d : Dev) → Call d (dev (fetched F a (d .store) (d .chip) room .store) (d .chip) (d .buf))
 fetch-call F a room d = record { number = fetched-number F a (d .store) (d .chip) room; buf = refl; size = refl }
+
+-- one that succeeds is within the chip
+fetch-fits : (F : List ℕ) (a : ℕ) (room : List ℕ) (d : Dev) → fetched F a (d .store) (d .chip) room .ok ≡ true → a + length room ≤ length (d .chip)
+unfolding fetched
+fetch-fits F a room d = go (able F (d .store) (d .chip) a (length room)) refl
+  where
+    go : (b : Bool) → able F (d .store) (d .chip) a (length room) ≡ b
+        → (cond b (got true (called (d .store)) (take (length room) (drop a (d .chip)))) (got false (called (d .store)) room)) .ok ≡ true → a + length room ≤ length (d .chip)
+    go true q t = able-fits F (d .store) (d .chip) a (length room) q
+    go false q t = false-true t
 
 module _ (F : List ℕ) (P : Dev → Type 0) (top : ℕ) (steps : Steps P top) where
   -- ---- flush
@@ -75,12 +90,23 @@ module _ (F : List ℕ) (P : Dev → Type 0) (top : ℕ) (steps : Steps P top) w
       (length-front (d .buf) (g .room) 4096 (fetched-length F a (d .store) (d .chip) (take 4096 (d .buf))))
       (steps .called d _ (fetch-call F a (take 4096 (d .buf)) d) h)
 
+  reads-fit : (a : ℕ) (d : Dev) → reads F a d .ok ≡ true → (let r = reads F a d .dev in a + min 4096 (length (r .buf)) ≤ length (r .chip))
+  unfolding reads
+  reads-fit a d t =
+      let room = take 4096 (d .buf) in
+      let g = fetched F a (d .store) (d .chip) room in
+      let l : length room ≡ min 4096 (length (d .buf)) = length-take 4096 (d .buf) in
+      let m : length (g .room ++ drop 4096 (d .buf)) ≡ length (d .buf) = length-front (d .buf) (g .room) 4096 (fetched-length F a (d .store) (d .chip) room) in
+      let h = fetch-fits F a room d t in
+      omega arith
+
   loads-along : (a : ℕ) (d : Dev) → a < top → P d → P (loads F a d .dev)
   unfolding loads
   loads-along a d l h =
       either-along P (holds (d .store) (base 4096 a)) (out true d) (andThen (flushes F d) S) h
       (then-along P (flushes F d) S (flushes-along d h)
-      (λ f k. then-along P (reads F (base 4096 a) f) R (reads-along (base 4096 a) f k) (λ r m. steps .holding (base 4096 a) r (omega arith) (omega arith) m)))
+      (λ f k. let m = reads-along (base 4096 a) f k in
+      then-went P (reads F (base 4096 a) f) R m (λ t. steps .holding (base 4096 a) _ (omega arith) (omega arith) (reads-fit (base 4096 a) f t) m)))
     where
       R : Dev → Out
       R r = out true (dev (holding (base 4096 a) (r .store)) (r .chip) (r .buf))
