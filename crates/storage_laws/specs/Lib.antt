@@ -1,5 +1,9 @@
+pub mod Steps
 pub mod Kept
+pub mod Counted
+pub mod Faults
 pub mod View
+pub mod Shown
 pub mod Stream
 pub mod Full
 pub mod Whole
