@@ -63,18 +63,19 @@ module _ (l : Lent) (p : ℕ) where
 
 -- ---- the cut
 
--- two writes as one answer
-abbrev pub both : Lent → ℕ → List ℕ → List ℕ → Dev → Told
-both l a xs ys d =
-    let t = written l a xs d in
-    let u = written l (a + length xs) ys (t .dev) in
+-- two writes as one answer, for either kind of device
+abbrev pub both : (ℕ → List ℕ → Dev → Told) → ℕ → List ℕ → List ℕ → Dev → Told
+both write a xs ys d =
+    let t = write a xs d in
+    let u = write (a + length xs) ys (t .dev) in
     told 0 (t .count + u .count) (u .dev)
 
-joins : (t u : Told) (p q n : ℕ) (e f : Dev) → t ≡ told 0 p e → u ≡ told 0 q f → n ≡ p + q → told 0 (t .count + u .count) (u .dev) ≡ told 0 n f
+pub joins : (t u : Told) (p q n : ℕ) (e f : Dev) → t ≡ told 0 p e → u ≡ told 0 q f → n ≡ p + q → told 0 (t .count + u .count) (u .dev) ≡ told 0 n f
 joins t u p q n e f x y z = rw (x, y, z)
 
+-- where the first part was written in full, a write of both is the one and then the other
 pub cut : (l : Lent) (xs ys : List ℕ) (a : ℕ) (d : Dev) → a + length (xs ++ ys) ≤ d .store .shape .capacity → written l a xs d .count ≡ length xs
-    → written l a (xs ++ ys) d ≡ both l a xs ys d
+    → written l a (xs ++ ys) d ≡ both (written l) a xs ys d
 cut l xs ys a d c n =
     let p = d .store .shape .page in
     let m : length (xs ++ ys) ≡ length xs + length ys = length-append xs ys in

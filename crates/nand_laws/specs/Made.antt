@@ -1,12 +1,13 @@
 -- What both kinds of device share of the chip calls that lead from one state to another: how many there were, which the call counter
 -- tells, and that one of them was told to fail.
-use mathlib.Core.Path.{_≡_, refl, sym, ap, _∙_}
+use mathlib.Core.Path.{_≡_, ap, _∙_}
 use mathlib.Core.List.{List}
 use mathlib.Core.Bool.{true}
 use Prim.Native.Nat.{ℕ, suc, _+_, _≤_, min}
+use native.Mathlib.Numerals.{unary-clauses}
 use native.Mathlib.Omega.{arith}
 use Rattle.storage.specs.declared.types.Store.{Store}
-use Rattle.storage.specs.World.{Dev, dev}
+use Rattle.storage.specs.World.{Dev}
 use Rattle.storage.specs.Chip.{failing, nextCall}
 use Rattle.storage.proofs.Programs.{Call}
 
@@ -17,6 +18,12 @@ pub data Made (d : Dev) : ℕ → Dev → Type 0 where
   none : Made d 0 d
   call : {n : ℕ} {e f : Dev} → Made d n e → Call e f → Made d (suc n) f
   aside : {n : ℕ} {e f : Dev} → Made d n e → f .chip ≡ e .chip → f .store .calls ≡ e .store .calls → Made d n f
+
+-- chip calls, and then more
+pub made-then : {d e f : Dev} {m n : ℕ} → Made d m e → Made e n f → Made d (m + n) f
+made-then m none = simp unary-clauses m
+made-then m (call n c) = simp unary-clauses (call (made-then m n) c)
+made-then m (aside n p q) = aside (made-then m n) p q
 
 -- the counter has grown by as many, up to its largest number
 pub made-count : {d : Dev} {n : ℕ} {e : Dev} → d .store .calls ≤ 18446744073709551615 → Made d n e → e .store .calls ≡ min (d .store .calls + n) 18446744073709551615

@@ -19,7 +19,8 @@ use Rattle.storage.proofs.Programs.{Call}
 use Rattle.storage.proofs.Sectors.{erase-call, write-call}
 use Rattle.storage.proofs.Fold.{false-true, stopped, reached, no-less}
 use Rattle.storage.proofs.Nors.{written-told}
-use Rattle.storage_laws.specs.Stream.{both, split}
+use Rattle.nand_laws.specs.Cut.{both}
+use Rattle.storage_laws.specs.Stream.{split}
 
 then-stuck : (o : Out) (f : Dev → Out) (H : Dev → Type 0) → H (o .dev) → ((e : Dev) → H e → f e .ok ≡ false → H (f e .dev)) → andThen o f .ok ≡ false → H (andThen o f .dev)
 then-stuck o f H h k = go (o .ok)
@@ -124,7 +125,7 @@ module _ (F : List ℕ) where
 
   -- the cut law: where the first part was written in full and no full sector waits, a write of both is the one and then the other
   pub cut : (xs ys : List ℕ) (a : ℕ) (d : Dev) → a + length (xs ++ ys) ≤ d .store .shape .capacity → written F a xs d .count ≡ length xs
-      → ((a + length xs) % 4096 ≡ 0 → written F a xs d .dev .store .held ≡ false) → written F a (xs ++ ys) d ≡ both F a xs ys d
+      → ((a + length xs) % 4096 ≡ 0 → written F a xs d .dev .store .held ≡ false) → written F a (xs ++ ys) d ≡ both (written F) a xs ys d
   cut xs ys a d c n w =
       let m = length-append xs ys in
       split F xs ys a d (full-ok xs a d (omega arith) n w) c

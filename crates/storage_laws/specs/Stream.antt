@@ -17,6 +17,7 @@ use Rattle.storage.specs.Nor.{loads, closes, flushes, written}
 use Rattle.storage.proofs.Fold.{writes-append, reached, no-less}
 use Rattle.storage.proofs.Nors.{written-told}
 use Rattle.nand_laws.specs.Made.{Failed, failed-wide}
+use Rattle.nand_laws.specs.Cut.{both, joins}
 use Rattle.storage_laws.specs.Kept.{writes-kept}
 use Rattle.storage_laws.specs.Counted.{made-on, flushes-made, written-made}
 use Rattle.storage_laws.specs.Faults.{QuietFrom, unmet}
@@ -35,19 +36,9 @@ writes-split F xs ys a d t =
     writes-append 4096 (loads F) (closes F) xs ys (run true a d)
     ∙ ap (λ (r : Run). writes 4096 (loads F) (closes F) ys r) (went o (a + length xs) t (reached 4096 (loads F) (closes F) xs a d t))
 
--- two writes as one answer
-abbrev pub both : List ℕ → ℕ → List ℕ → List ℕ → Dev → Told
-both F a xs ys d =
-    let t = written F a xs d in
-    let u = written F (a + length xs) ys (t .dev) in
-    told 0 (t .count + u .count) (u .dev)
-
-joins : (t u : Told) (p q n : ℕ) (e f : Dev) → t ≡ told 0 p e → u ≡ told 0 q f → n ≡ p + q → told 0 (t .count + u .count) (u .dev) ≡ told 0 n f
-joins t u p q n e f x y z = rw (x, y, z)
-
 -- a write of both is the one and then the other, where nothing failed in the first
 pub split : (F xs ys : List ℕ) (a : ℕ) (d : Dev) → writes 4096 (loads F) (closes F) xs (run true a d) .ok ≡ true → a + length (xs ++ ys) ≤ d .store .shape .capacity
-    → written F a (xs ++ ys) d ≡ both F a xs ys d
+    → written F a (xs ++ ys) d ≡ both (written F) a xs ys d
 split F xs ys a d t c =
     let n : length (xs ++ ys) ≡ length xs + length ys = length-append xs ys in
     let o = writes 4096 (loads F) (closes F) xs (run true a d) in
@@ -129,7 +120,7 @@ module _ (F : List ℕ) where
 
   -- the cut law within the chip, with no such call: a write of both is the one and then the other
   pub split-quiet : (xs ys v : List ℕ) (sh : Shape) (a : ℕ) (d : Dev) → QuietFrom F (d .store .calls) → Shows v sh d → a + length (xs ++ ys) ≤ length v
-      → a + length (xs ++ ys) ≤ sh .capacity → written F a (xs ++ ys) d ≡ both F a xs ys d
+      → a + length (xs ++ ys) ≤ sh .capacity → written F a (xs ++ ys) d ≡ both (written F) a xs ys d
   split-quiet xs ys v sh a d q s k c =
       let n : length (xs ++ ys) ≡ length xs + length ys = length-append xs ys in
       let w = writes-show F xs v sh a d q s (omega arith) in
