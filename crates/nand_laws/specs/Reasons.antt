@@ -66,6 +66,12 @@ pub no-reason : {l : Lent} {Asks : ℕ → Type 0} {d e : Dev} → Good l → Re
 no-reason g (error x) = false-true (sym (g .quiet (x .number)) ∙ x .fails)
 no-reason g (bad k a h n) = n (g .good k h)
 
+-- a reason of a call is one of any longer run of calls that may ask about these blocks
+pub reason-wide : {l : Lent} {A B : ℕ → Type 0} {c d e f : Dev} → c .store .calls ≤ d .store .calls → e .store .calls ≤ f .store .calls → ((k : ℕ) → A k → B k)
+    → Reason l A d e → Reason l B c f
+reason-wide h i g (error x) = error (failed-wide h i x)
+reason-wide h i g (bad k a m n) = bad k (g k a) m n
+
 -- what holds but for a reason holds where there is none
 pub surely : {A B : Type 0} → (B → ⊥) → A ⊎ B → A
 surely n (inl a) = a
@@ -272,8 +278,7 @@ module _ (l : Lent) (Asks : ℕ → Type 0) (d : Dev) where
 
     -- a reason stays one
     later : {e f : Dev} → e .store .calls ≤ f .store .calls → Reason l Asks d e → Reason l Asks d f
-    later h (error x) = error (failed-wide (le-refl (d .store .calls)) h x)
-    later h (bad k a m n) = bad k a m n
+    later h = reason-wide (le-refl (d .store .calls)) h (λ k a. a)
 
     -- what succeeds has none to give
     done : (o : Out) → o .ok ≡ true → Fair o
@@ -586,6 +591,17 @@ module _ (l : Lent) (d : Dev) (w : Within l d) where
   -- behind a write of bytes below the capacity and below the chip's end
   pub write-within : (off : ℕ) (xs : List ℕ) → Inside d off (length xs) → Bytes xs → Within l (written l off xs d .dev)
   write-within off xs i b = subst (λ (t : Told). Within l (t .dev)) (written-told l off xs d (i .low) refl) (wrote off xs i b .0 .within)
+
+  -- ---- a page that is held behind a call is one that was held before it, or lies in a block that the call touches
+
+  -- behind a read
+  pub read-held : (off : ℕ) (room : List ℕ) (k : ℕ) → Held (readOut l off room d .told .dev) k → Held d k
+  read-held off room k h = subst (Held d) (sym (h .1)) (readOut-still l (Held d) d d about-held off room .asks (h .0))
+
+  -- behind a write
+  pub write-held : (off : ℕ) (xs : List ℕ) → Inside d off (length xs) → Bytes xs → (k : ℕ) → Held (written l off xs d .dev) k → HeldOrTouched d off (length xs) k
+  write-held off xs i b k h =
+      subst (HeldOrTouched d off (length xs)) (sym (h .1)) (subst (λ (t : Told). t .dev .store .held ≡ true → HeldOrTouched d off (length xs) (blockOf (t .dev))) (written-told l off xs d (i .low) refl) (wrote off xs i b .0 .asks) (h .0))
 
   -- ---- a call does all that it is asked, or it met a reason
 

@@ -67,7 +67,7 @@ bytes-set (y ∷ ys) (suc i) x k h zero = h 0
 bytes-set (y ∷ ys) (suc i) x k h (suc j) = bytes-set ys i x k (λ n. h (suc n)) j
 
 -- the front of bytes
-bytes-take : (n : ℕ) (xs : List ℕ) → Bytes xs → Bytes (take n xs)
+pub bytes-take : (n : ℕ) (xs : List ℕ) → Bytes xs → Bytes (take n xs)
 bytes-take zero xs h i = omega arith
 bytes-take (suc n) [] h i = omega arith
 bytes-take (suc n) (x ∷ xs) h zero = h 0
@@ -128,9 +128,9 @@ begin-within l p a f q w h =
 
 -- ---- that it can be met
 
--- as with what every call tests before it does anything, where a held page lies within the chip and the buffer holds bytes
-pub sound-within : (l : Lent) (d : Dev) → good l d ≡ true → d .store .shape .kind ≡ Nand → (d .store .held ≡ true → d .store .at < length (d .chip)) → Bytes (d .buf)
-    → Within l d
+-- as with what every call tests before it does anything, where a held page lies within the chip and is of bytes
+pub sound-within : (l : Lent) (d : Dev) → good l d ≡ true → d .store .shape .kind ≡ Nand → (d .store .held ≡ true → d .store .at < length (d .chip))
+    → (d .store .held ≡ true → Bytes (pageOf d)) → Within l d
 unfolding good
 sound-within l d t k b h =
     let s = sound (d .store) (length (d .chip)) (length (l .marks)) (length (d .buf)) t in
@@ -143,7 +143,7 @@ sound-within l d t k b h =
       room = omega (arith, n .numbers .page-high, s .room);
       on = λ e. ap (λ (x : Kind). d .store .at % byKind x 4096 (d .store .shape .page)) (sym k) ∙ s .held-start e;
       below = b;
-      bytes = λ e. bytes-take (d .store .shape .page) (d .buf) h;
+      bytes = h;
     }
 
 -- as with a store that holds nothing, whatever block was erased last, over any chip of its size and any marks of its blocks

@@ -3,7 +3,7 @@
 use mathlib.Core.Path.{_≡_, refl, sym, ap, _∙_}
 use mathlib.Core.Bool.{Bool, true, false, _&&_, cond}
 use mathlib.Core.List.{List, _++_}
-use Prim.Native.Nat.{ℕ, zero, suc, _+_, _-_, _%_, _≤_, _<_}
+use Prim.Native.Nat.{ℕ, zero, suc, _+_, _-_, _%_, _≤_, _<_, min}
 use native.Mathlib.Omega.{arith}
 use lib.Dec.{eqb, leb}
 use lib.ListN.{length, take, drop}
@@ -11,8 +11,7 @@ use Rattle.storage.specs.declared.types.Kind.{Kind}
 use Rattle.storage.specs.declared.types.Kind.the-variants.{Nor, Nand}
 use Rattle.storage.specs.declared.types.Shape.{Shape}
 use Rattle.storage.specs.declared.types.Store.{Store}
-use Rattle.storage.specs.World.{Lent, Dev, Out, Told, told, statusOf, report, Seen, seen}
-use Rattle.storage.specs.Fold.{run, writes}
+use Rattle.storage.specs.World.{Lent, Dev, Told, told, statusOf, Seen, seen}
 use Rattle.storage.specs.Nor as NorOf
 use Rattle.storage.specs.Nor.{pagesOf, satAdd}
 use Rattle.storage.specs.Nand as NandOf
@@ -60,42 +59,42 @@ module _ (l : Lent) (d : Dev) (g : good l d ≡ true) where
 
   -- ---- the calls of a kind, one by one
 
-  chosen : {A : Type 0} (f : A → Dev) (x y z : A) → (d .store .shape .kind ≡ Nor → good l (f x) ≡ true) → (d .store .shape .kind ≡ Nand → good l (f y) ≡ true)
-      → good l (f (byGood l d x y z)) ≡ true
+  -- the answer of a call is that of the store's kind
+  pub chosen : {A : Type 0} (P : A → Type 0) (x y z : A) → (d .store .shape .kind ≡ Nor → P x) → (d .store .shape .kind ≡ Nand → P y) → P (byGood l d x y z)
   unfolding byGood
-  chosen {A} f x y z a b = rw g (go (d .store .shape .kind) refl)
+  chosen {A} P x y z a b = rw g (go (d .store .shape .kind) refl)
     where
-      go : (k : Kind) → d .store .shape .kind ≡ k → good l (f (byKind k x y)) ≡ true
+      go : (k : Kind) → d .store .shape .kind ≡ k → P (byKind k x y)
       go Nor q = a q
       go Nand q = b q
 
   pub flushing-good : good l (flushing l d .dev) ≡ true
   unfolding flushing
   flushing-good =
-      chosen (λ (t : Told). t .dev) _ _ _ (λ q. nor-after q (NorOf.flushes (l .faults) d .dev) (NorKept.flushes-kept (l .faults) d))
+      chosen (λ (t : Told). good l (t .dev) ≡ true) _ _ _ (λ q. nor-after q (NorOf.flushes (l .faults) d .dev) (NorKept.flushes-kept (l .faults) d))
       (λ q. nand-after q (NandOf.flushed l d .dev) (NandKept.flushed-kept l d))
 
   pub erasing-good : (start size : ℕ) → good l (erasing l start size d .dev) ≡ true
   unfolding erasing
   erasing-good start size =
-      chosen (λ (t : Told). t .dev) _ _ _ (λ q. nor-after q (NorOf.erased (l .faults) start size d .dev) (NorKept.erased-kept (l .faults) start size d))
+      chosen (λ (t : Told). good l (t .dev) ≡ true) _ _ _ (λ q. nor-after q (NorOf.erased (l .faults) start size d .dev) (NorKept.erased-kept (l .faults) start size d))
       (λ q. nand-after q (NandOf.erased l start size d .dev) (NandKept.erased-kept l d start size))
 
   pub writing-good : (off : ℕ) (xs : List ℕ) → good l (writing l off xs d .dev) ≡ true
   unfolding writing
   writing-good off xs =
-      chosen (λ (t : Told). t .dev) _ _ _ (λ q. nor-after q (NorOf.written (l .faults) off xs d .dev) (NorKept.written-kept (l .faults) off xs d))
+      chosen (λ (t : Told). good l (t .dev) ≡ true) _ _ _ (λ q. nor-after q (NorOf.written (l .faults) off xs d .dev) (NorKept.written-kept (l .faults) off xs d))
       (λ q. nand-after q (NandOf.written l off xs d .dev) (NandKept.written-kept l d (page-fits q) off xs))
 
   pub reading-good : (off : ℕ) (room : List ℕ) → good l (reading l off room d .told .dev) ≡ true
   unfolding reading
   reading-good off room =
-      chosen (λ (s : Seen). s .told .dev) _ _ _ (λ q. nor-after q (NorOf.readOut (l .faults) off room d .told .dev) (NorKept.readOut-kept (l .faults) off room d))
+      chosen (λ (s : Seen). good l (s .told .dev) ≡ true) _ _ _ (λ q. nor-after q (NorOf.readOut (l .faults) off room d .told .dev) (NorKept.readOut-kept (l .faults) off room d))
       (λ q. nand-after q (NandOf.readOut l off room d .told .dev) (NandKept.readOut-kept l d off room))
 
 -- ---- moves of scratch
 
-either : {A : Type 0} (P : A → Type 0) (b : Bool) (x y : A) → P x → P y → P (cond b x y)
+pub either : {A : Type 0} (P : A → Type 0) (b : Bool) (x y : A) → P x → P y → P (cond b x y)
 either P true x y p q = p
 either P false x y p q = q
 
@@ -138,44 +137,76 @@ status-small : (b : Bool) → statusOf b ≡ 9 → ⊥
 status-small true e = omega arith
 status-small false e = omega arith
 
-zero-status : (b : Bool) (n : ℕ) (e d : Dev) → cond b (told 0 n e) (told 0 0 d) .status ≡ 0
-zero-status true n e d = refl
-zero-status false n e d = refl
+abbrev Zero : Told → Type 0
+Zero t = t .status ≡ 0
 
-nor-status : (F : List ℕ) (off : ℕ) (xs : List ℕ) (d : Dev) → NorOf.written F off xs d .status ≡ 0
+nor-write-status : (F : List ℕ) (off : ℕ) (xs : List ℕ) (d : Dev) → Zero (NorOf.written F off xs d)
 unfolding NorOf.written
-nor-status F off xs d =
-    let o = writes 4096 (NorOf.loads F) (NorOf.closes F) xs (run true off d) in
-    zero-status (leb (off + length xs) (d .store .shape .capacity)) (o .at - off) (o .dev) d
+nor-write-status F off xs d = either Zero (leb (off + length xs) (d .store .shape .capacity)) _ _ refl refl
 
-nand-status : (l : Lent) (off : ℕ) (xs : List ℕ) (d : Dev) → NandOf.written l off xs d .status ≡ 0
+nand-write-status : (l : Lent) (off : ℕ) (xs : List ℕ) (d : Dev) → Zero (NandOf.written l off xs d)
 unfolding NandOf.written
-nand-status l off xs d =
-    let p = d .store .shape .page in
-    let o = writes p (NandOf.loads l p) NandOf.stays xs (run true off d) in
-    zero-status (leb (off + length xs) (d .store .shape .capacity)) (o .at - off) (o .dev) d
+nand-write-status l off xs d = either Zero (leb (off + length xs) (d .store .shape .capacity)) _ _ refl refl
+
+-- what a read tells after its flush
+read-status : (b c : Bool) (n : ℕ) (e f : Dev) (r s : List ℕ) → Zero ((cond b (cond c (seen (told 0 0 e) r) (seen (told 0 n f) s)) (seen (told 0 0 e) r)) .told)
+read-status true true n e f r s = refl
+read-status true false n e f r s = refl
+read-status false c n e f r s = refl
+
+nor-read-status : (F : List ℕ) (off : ℕ) (room : List ℕ) (d : Dev) → Zero (NorOf.readOut F off room d .told)
+unfolding NorOf.readOut
+nor-read-status F off room d =
+    let f = NorOf.flushes F d in
+    let n = min (length room) (f .dev .store .shape .capacity - off) in
+    read-status (f .ok) (eqb n 0) _ (f .dev) _ room _
+
+nand-read-status : (l : Lent) (off : ℕ) (room : List ℕ) (d : Dev) → Zero (NandOf.readOut l off room d .told)
+unfolding NandOf.readOut
+nand-read-status l off room d =
+    let f = NandOf.flushes l d in
+    let n = min (length room) (f .dev .store .shape .capacity - off) in
+    read-status (f .ok) (eqb n 0) _ (f .dev) _ room _
+
+out-status : (k : ℕ) (l : Lent) (off : ℕ) (xs : List ℕ) (d : Dev) → Zero (outK k l off xs d)
+unfolding outK
+out-status zero l off xs d = refl
+out-status (suc k) l off xs d = either Zero (eqb (writing l off (take 256 xs) d .count) (length (take 256 xs))) _ _ refl refl
+
+in-status : (k : ℕ) (l : Lent) (off : ℕ) (room : List ℕ) (d : Dev) → Zero (inK k l off room d .told)
+unfolding inK
+in-status zero l off room d = refl
+in-status (suc k) l off room d = either (λ (s : Seen). Zero (s .told)) (eqb (reading l off (take 256 room) d .told .count) (length (take 256 room))) _ _ refl refl
 
 module _ (l : Lent) (d : Dev) (g : good l d ≡ true) where
+  -- a flush is not refused
   pub flushing-told : flushing l d .status ≡ 9 → ⊥
-  unfolding flushing byGood
-  flushing-told = rw g (go (d .store .shape .kind))
-    where
-      go : (k : Kind) → byKind k (report (NorOf.flushes (l .faults) d)) (report (NandOf.flushed l d)) .status ≡ 9 → ⊥
-      go Nor = status-small (NorOf.flushes (l .faults) d .ok)
-      go Nand = status-small (NandOf.flushed l d .ok)
+  unfolding flushing
+  flushing-told =
+      chosen l d g (λ (t : Told). t .status ≡ 9 → ⊥) _ _ _ (λ q. status-small (NorOf.flushes (l .faults) d .ok)) (λ q. status-small (NandOf.flushed l d .ok))
 
+  -- nor an erase
   pub erasing-told : (start size : ℕ) → erasing l start size d .status ≡ 9 → ⊥
-  unfolding erasing byGood
-  erasing-told start size = rw g (go (d .store .shape .kind))
-    where
-      go : (k : Kind) → byKind k (report (NorOf.erased (l .faults) start size d)) (report (NandOf.erased l start size d)) .status ≡ 9 → ⊥
-      go Nor = status-small (NorOf.erased (l .faults) start size d .ok)
-      go Nand = status-small (NandOf.erased l start size d .ok)
+  unfolding erasing
+  erasing-told start size =
+      chosen l d g (λ (t : Told). t .status ≡ 9 → ⊥) _ _ _ (λ q. status-small (NorOf.erased (l .faults) start size d .ok))
+      (λ q. status-small (NandOf.erased l start size d .ok))
 
+  -- a write answers 0, and its count says what it did
   pub writing-told : (off : ℕ) (xs : List ℕ) → writing l off xs d .status ≡ 0
-  unfolding writing byGood
-  writing-told off xs = rw g (go (d .store .shape .kind))
-    where
-      go : (k : Kind) → byKind k (NorOf.written (l .faults) off xs d) (NandOf.written l off xs d) .status ≡ 0
-      go Nor = nor-status (l .faults) off xs d
-      go Nand = nand-status l off xs d
+  unfolding writing
+  writing-told off xs = chosen l d g Zero _ _ _ (λ q. nor-write-status (l .faults) off xs d) (λ q. nand-write-status l off xs d)
+
+  -- so does a read
+  pub reading-told : (off : ℕ) (room : List ℕ) → reading l off room d .told .status ≡ 0
+  unfolding reading
+  reading-told off room = chosen l d g (λ (s : Seen). Zero (s .told)) _ _ _ (λ q. nor-read-status (l .faults) off room d) (λ q. nand-read-status l off room d)
+
+  -- and so do the moves of scratch
+  pub from-told : (off at n : ℕ) (scratch : List ℕ) → fromScratch l off at n scratch d .status ≡ 0
+  unfolding fromScratch
+  from-told off at n scratch = rw g (out-status (pagesOf 256 (length (part scratch at n))) l off (part scratch at n) d)
+
+  pub into-told : (off at n : ℕ) (scratch : List ℕ) → intoScratch l off at n scratch d .told .status ≡ 0
+  unfolding intoScratch
+  into-told off at n scratch = rw g (in-status (pagesOf 256 (length (part scratch at n))) l off (part scratch at n) d)

@@ -8,3 +8,4 @@ pub mod Stream
 pub mod Full
 pub mod Whole
 pub mod Bounds
+pub mod Calls
