@@ -9,3 +9,4 @@ pub mod Full
 pub mod Whole
 pub mod Bounds
 pub mod Calls
+pub mod Reasons
