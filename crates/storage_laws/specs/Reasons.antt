@@ -6,20 +6,27 @@
 -- whose writes stay below the capacity and the chip's end. What falls outside is refused by a rule: a record that the tests of every
 -- call do not take is answered with 9 (Bounds), and a range that passes the capacity with a failure or a short count.
 use mathlib.Core.Path.{_≡_, refl, sym, ap, _∙_}
-use mathlib.Core.Bool.{Bool, true}
-use mathlib.Core.List.{List}
+use mathlib.Core.Bool.{Bool, true, false}
+use mathlib.Core.List.{List, [], _∷_}
 use mathlib.Core.Logic.{_⊎_, inl, inr, ⊎-elim}
 use Prim.Native.Nat.{ℕ, _+_, _-_, _≤_, _<_, min}
 use native.Mathlib.Nat.{le-refl}
 use native.Mathlib.Omega.{arith}
 use lib.ListN.{length}
+use Rattle.text.specs.Token.{ascii}
 use Rattle.storage.specs.declared.types.Kind.{Kind}
 use Rattle.storage.specs.declared.types.Kind.the-variants.{Nor, Nand}
 use Rattle.storage.specs.declared.types.Shape.{Shape}
-use Rattle.storage.specs.World.{Lent, Dev, Out, Told, statusOf, Seen}
+use Rattle.storage.specs.declared.types.Store.{Store}
+use Rattle.storage.specs.declared.open.Opened.the-variants.{Ready}
+use Rattle.storage.specs.World.{Lent, Dev, dev, Out, Told, statusOf, Seen}
 use Rattle.storage.specs.Nor.{satAdd}
+use Rattle.storage.specs.Partition.{Lists, lists, partsOf, parts, total, all, listsOk}
+use Rattle.storage.specs.Open.{oneOf, pageOk, pagesOk, geometryOk, chipOk, numbersOk, scratchOk, norStore, nandStore, openedNor, openedNand}
+use Rattle.storage.specs.OpenExamples.{replay-opens}
 use Rattle.storage.specs.Store.{good, flushing, erasing, writing, reading}
-use Rattle.storage.proofs.Opens.{sound}
+use Rattle.storage.proofs.Fold.{false-true}
+use Rattle.storage.proofs.Opens.{sound, opened-nor, opened-nor-sound, opened-nand, opened-nand-sound}
 use Rattle.nand_laws.specs.Made.{Failed}
 use Rattle.nand_laws.specs.Within.{Bytes, pageOf, Within, Inside, sound-within}
 use Rattle.nand_laws.specs.Reasons as OfNand
@@ -179,3 +186,38 @@ module _ (l : Lent) (d : Dev) (o : InOrder l d) where
       after =
           chosen l d (o .taken) (λ (s : Seen). Rests (s .told .dev)) _ _ _ (λ q. nor-rests q _ (Shown.readOut-shown (l .faults) (view d) (d .store .shape) d (shows q) off room))
           (λ q. nand-rests _ (OfNand.read-within l d (within q) off room))
+
+-- ---- an opening gives a store in order
+
+-- one that the tests take, that holds nothing and has made no call
+fresh-order : (l : Lent) (d : Dev) → good l d ≡ true → d .store .held ≡ false → d .store .calls ≡ 0 → InOrder l d
+fresh-order l d g h n = record { taken = g; calls = omega arith; rests = record { below = λ t. false-true (sym h ∙ t); bytes = λ k t. false-true (sym h ∙ t) } }
+
+-- a NOR that is opened over a chip and a buffer
+pub nor-opening : (l : Lent) (chip buf : List ℕ) (table : Lists) (base scratch stage device : ℕ) (s : Store)
+    → openedNor (length chip) (length buf) table base scratch stage device ≡ Ready s → InOrder l (dev s chip buf)
+unfolding good
+nor-opening l chip buf table base scratch stage device s e =
+    let q = opened-nor (length chip) (length buf) table base scratch stage device s e .store in
+    fresh-order l (dev s chip buf) (opened-nor-sound (length chip) (length buf) table base scratch stage device s (length (l .marks)) e)
+    (ap (λ (x : Store). x .held) q) (ap (λ (x : Store). x .calls) q)
+
+-- a NAND that is opened over a chip and its marks, with a buffer that later calls take
+pub nand-opening : (l : Lent) (chip buf : List ℕ) (page pages blocks capacity : ℕ) (table : Lists) (base scratch stage device : ℕ) (s : Store) → 4096 ≤ length buf
+    → openedNand (length chip) page pages blocks (length (l .marks)) capacity table base scratch stage device ≡ Ready s → InOrder l (dev s chip buf)
+unfolding good
+nand-opening l chip buf page pages blocks capacity table base scratch stage device s h e =
+    let q = opened-nand (length chip) page pages blocks (length (l .marks)) capacity table base scratch stage device s e .store in
+    fresh-order l (dev s chip buf) (opened-nand-sound (length chip) page pages blocks (length (l .marks)) capacity table base scratch stage device s (length buf) h e)
+    (ap (λ (x : Store). x .held) q) (ap (λ (x : Store). x .calls) q)
+
+-- the opening of 01's replay program, for one
+pub example-nor : (l : Lent) (chip buf : List ℕ) → length chip ≡ 32768 → length buf ≡ 4096 → InOrder l (dev (norStore 32768 16384 0 0) chip buf)
+example-nor l chip buf c b =
+    nor-opening l chip buf (lists (8192 ∷ []) (8192 ∷ []) (3 ∷ []) (ascii "app")) 0x40000000 4096 0 0 (norStore 32768 16384 0 0) (rw (c, b) replay-opens)
+
+-- and two blocks of sixteen pages of 2,048 bytes, with no partition
+pub example-nand : (l : Lent) (chip buf : List ℕ) → length (l .marks) ≡ 2 → length chip ≡ 65536 → 4096 ≤ length buf
+    → InOrder l (dev (nandStore 2048 16 2 65536 0 0) chip buf)
+unfolding openedNand numbersOk geometryOk pageOk pagesOk oneOf chipOk listsOk parts partsOf total all scratchOk
+example-nand l chip buf m c b = nand-opening l chip buf 2048 16 2 65536 (lists [] [] [] []) 0 0 0 0 (nandStore 2048 16 2 65536 0 0) b (rw (m, c))
