@@ -601,7 +601,8 @@ module _ (l : Lent) (d : Dev) (w : Within l d) where
   -- behind a write
   pub write-held : (off : ℕ) (xs : List ℕ) → Inside d off (length xs) → Bytes xs → (k : ℕ) → Held (written l off xs d .dev) k → HeldOrTouched d off (length xs) k
   write-held off xs i b k h =
-      subst (HeldOrTouched d off (length xs)) (sym (h .1)) (subst (λ (t : Told). t .dev .store .held ≡ true → HeldOrTouched d off (length xs) (blockOf (t .dev))) (written-told l off xs d (i .low) refl) (wrote off xs i b .0 .asks) (h .0))
+      let At : Dev → Type 0 = λ e. e .store .held ≡ true → HeldOrTouched d off (length xs) (blockOf e) in
+      subst (HeldOrTouched d off (length xs)) (sym (h .1)) (subst (λ (t : Told). At (t .dev)) (written-told l off xs d (i .low) refl) (wrote off xs i b .0 .asks) (h .0))
 
   -- ---- a call does all that it is asked, or it met a reason
 

@@ -10,7 +10,6 @@ use lib.ListN.{length, take, drop}
 use Rattle.storage.specs.declared.types.Kind.{Kind}
 use Rattle.storage.specs.declared.types.Kind.the-variants.{Nor, Nand}
 use Rattle.storage.specs.declared.types.Shape.{Shape}
-use Rattle.storage.specs.declared.types.Store.{Store}
 use Rattle.storage.specs.World.{Lent, Dev, Told, told, statusOf, Seen, seen}
 use Rattle.storage.specs.Nor as NorOf
 use Rattle.storage.specs.Nor.{pagesOf, satAdd}
@@ -54,7 +53,8 @@ module _ (l : Lent) (d : Dev) (g : good l d ≡ true) where
       after e (k .shape) (k .chip) (k .buf)
       (λ h. let x = k .on (λ i. (ap (λ (n : ℕ). d .store .at % n) (sym u) ∙ facts .held-start i, facts .held-below i)) h in (ap (λ (n : ℕ). e .store .at % n) (u ∙ sym p) ∙ x .0, omega (arith, x .1)))
 
-  page-fits : d .store .shape .kind ≡ Nand → d .store .shape .page ≤ length (d .buf)
+  -- a page has room in the buffer
+  pub page-fits : d .store .shape .kind ≡ Nand → d .store .shape .page ≤ length (d .buf)
   page-fits q = omega (arith, facts .nand q .numbers .page-high, facts .room)
 
   -- ---- the calls of a kind, one by one
@@ -68,24 +68,28 @@ module _ (l : Lent) (d : Dev) (g : good l d ≡ true) where
       go Nor q = a q
       go Nand q = b q
 
+  -- a flush leaves a record in bounds, with parts that fit it
   pub flushing-good : good l (flushing l d .dev) ≡ true
   unfolding flushing
   flushing-good =
       chosen (λ (t : Told). good l (t .dev) ≡ true) _ _ _ (λ q. nor-after q (NorOf.flushes (l .faults) d .dev) (NorKept.flushes-kept (l .faults) d))
       (λ q. nand-after q (NandOf.flushed l d .dev) (NandKept.flushed-kept l d))
 
+  -- so does an erase
   pub erasing-good : (start size : ℕ) → good l (erasing l start size d .dev) ≡ true
   unfolding erasing
   erasing-good start size =
       chosen (λ (t : Told). good l (t .dev) ≡ true) _ _ _ (λ q. nor-after q (NorOf.erased (l .faults) start size d .dev) (NorKept.erased-kept (l .faults) start size d))
       (λ q. nand-after q (NandOf.erased l start size d .dev) (NandKept.erased-kept l d start size))
 
+  -- so does a write
   pub writing-good : (off : ℕ) (xs : List ℕ) → good l (writing l off xs d .dev) ≡ true
   unfolding writing
   writing-good off xs =
       chosen (λ (t : Told). good l (t .dev) ≡ true) _ _ _ (λ q. nor-after q (NorOf.written (l .faults) off xs d .dev) (NorKept.written-kept (l .faults) off xs d))
       (λ q. nand-after q (NandOf.written l off xs d .dev) (NandKept.written-kept l d (page-fits q) off xs))
 
+  -- so does a read
   pub reading-good : (off : ℕ) (room : List ℕ) → good l (reading l off room d .told .dev) ≡ true
   unfolding reading
   reading-good off room =
@@ -94,10 +98,12 @@ module _ (l : Lent) (d : Dev) (g : good l d ≡ true) where
 
 -- ---- moves of scratch
 
+-- what holds of either holds of the one that a test picks
 pub either : {A : Type 0} (P : A → Type 0) (b : Bool) (x y : A) → P x → P y → P (cond b x y)
 either P true x y p q = p
 either P false x y p q = q
 
+-- pieces out of scratch leave such a record
 pub out-good : (k : ℕ) (l : Lent) (off : ℕ) (xs : List ℕ) (d : Dev) → good l d ≡ true → good l (outK k l off xs d .dev) ≡ true
 unfolding outK
 out-good zero l off xs d g = g
@@ -108,6 +114,7 @@ out-good (suc k) l off xs d g =
     (plus (t .count) (outK k l (satAdd off (t .count)) (drop 256 xs) (t .dev))) (told 0 (t .count) (t .dev))
     (out-good k l (satAdd off (t .count)) (drop 256 xs) (t .dev) h) h
 
+-- pieces into scratch do
 pub in-good : (k : ℕ) (l : Lent) (off : ℕ) (room : List ℕ) (d : Dev) → good l d ≡ true → good l (inK k l off room d .told .dev) ≡ true
 unfolding inK
 in-good zero l off room d g = g
@@ -121,12 +128,14 @@ in-good (suc k) l off room d g =
     (in-good k l (satAdd off (t .count)) (drop 256 room) (t .dev) h) h
 
 module _ (l : Lent) (d : Dev) (g : good l d ≡ true) (off at n : ℕ) (scratch : List ℕ) where
+  -- a move out of scratch leaves such a record
   pub from-good : good l (fromScratch l off at n scratch d .dev) ≡ true
   unfolding fromScratch
   from-good =
       either (λ (t : Told). good l (t .dev) ≡ true) (good l d) (outK (pagesOf 256 (length (part scratch at n))) l off (part scratch at n) d) (told 9 0 d)
       (out-good (pagesOf 256 (length (part scratch at n))) l off (part scratch at n) d g) g
 
+  -- so does a move into scratch
   pub into-good : good l (intoScratch l off at n scratch d .told .dev) ≡ true
   unfolding intoScratch
   into-good = rw g (in-good (pagesOf 256 (length (part scratch at n))) l off (part scratch at n) d g)
@@ -202,11 +211,12 @@ module _ (l : Lent) (d : Dev) (g : good l d ≡ true) where
   unfolding reading
   reading-told off room = chosen l d g (λ (s : Seen). Zero (s .told)) _ _ _ (λ q. nor-read-status (l .faults) off room d) (λ q. nand-read-status l off room d)
 
-  -- and so do the moves of scratch
+  -- so does a move out of scratch
   pub from-told : (off at n : ℕ) (scratch : List ℕ) → fromScratch l off at n scratch d .status ≡ 0
   unfolding fromScratch
   from-told off at n scratch = rw g (out-status (pagesOf 256 (length (part scratch at n))) l off (part scratch at n) d)
 
+  -- so does a move into scratch
   pub into-told : (off at n : ℕ) (scratch : List ℕ) → intoScratch l off at n scratch d .told .status ≡ 0
   unfolding intoScratch
   into-told off at n scratch = rw g (in-status (pagesOf 256 (length (part scratch at n))) l off (part scratch at n) d)

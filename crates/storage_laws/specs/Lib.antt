@@ -10,3 +10,4 @@ pub mod Whole
 pub mod Bounds
 pub mod Calls
 pub mod Reasons
+pub mod Moves

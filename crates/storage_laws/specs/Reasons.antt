@@ -3,8 +3,9 @@
 --   one of the chip calls that this very call made has a number that is told to fail, or
 --   the store is a NAND's, and a block is marked bad that this very call may have to erase.
 -- Each call leaves the store in order, failed or not, and an opening gives one in order: so this holds of any calls after an opening
--- whose writes stay below the capacity and the chip's end. What falls outside is refused by a rule: a record that the tests of every
--- call do not take is answered with 9 (Bounds), and a range that passes the capacity with a failure or a short count.
+-- whose writes stay below the capacity and the chip's end. The rest are rules: a record or a part that the tests of every call do not
+-- take is answered with 9 (storage/specs/Store.antt), a range that passes the capacity is refused or cut (`written`, `erased`,
+-- `readOut` of storage/specs), and one that passes the chip's end meets chip calls out of range, which err.
 use mathlib.Core.Path.{_≡_, refl, sym, ap, _∙_}
 use mathlib.Core.Bool.{Bool, true, false}
 use mathlib.Core.List.{List, [], _∷_}
@@ -64,7 +65,7 @@ Met l Asks d e = Reason l (λ (k : ℕ). (d .store .shape .kind ≡ Nand) × Ask
 
 -- ---- the two kinds
 
-nor-nand : {A : Type 0} {k : Kind} → k ≡ Nor → k ≡ Nand → A
+pub nor-nand : {A : Type 0} {k : Kind} → k ≡ Nor → k ≡ Nand → A
 nor-nand p q = absurd (let z : _≡_ {A = ℕ} 0 1 = cc in omega arith)
 
 -- what is told of a success
@@ -75,7 +76,7 @@ module _ (l : Lent) (d : Dev) (o : InOrder l d) where
   shows : d .store .shape .kind ≡ Nor → Shows (view d) (d .store .shape) d
   shows q = Shown.good-shows l d (o .taken) q (o .rests .below) (o .calls)
 
-  within : d .store .shape .kind ≡ Nand → Within l d
+  pub within : d .store .shape .kind ≡ Nand → Within l d
   within q = sound-within l d (o .taken) q (o .rests .below) (o .rests .bytes q)
 
   -- what a NOR did or met, and what a NAND did or met
