@@ -20,8 +20,9 @@ use Rattle.storage.specs.declared.types.Kind.the-variants.{Nor, Nand}
 use Rattle.storage.specs.declared.types.Shape.{Shape}
 use Rattle.storage.specs.declared.types.Store.{Store}
 use Rattle.storage.specs.declared.open.Opened.the-variants.{Ready}
-use Rattle.storage.specs.World.{Lent, Dev, dev, Out, Told, statusOf, Seen}
+use Rattle.storage.specs.World.{Lent, lent, Dev, dev, Out, Told, statusOf, Seen}
 use Rattle.storage.specs.Nor.{satAdd}
+use Rattle.storage.specs.Nand.{blanks}
 use Rattle.storage.specs.Partition.{Lists, lists, partsOf, parts, total, all, listsOk}
 use Rattle.storage.specs.Open.{oneOf, pageOk, pagesOk, geometryOk, chipOk, numbersOk, scratchOk, norStore, nandStore, openedNor, openedNand}
 use Rattle.storage.specs.OpenExamples.{replay-opens}
@@ -31,7 +32,8 @@ use Rattle.storage.proofs.Opens.{sound, opened-nor, opened-nor-sound, opened-na
 use Rattle.nand_laws.specs.Made.{Failed}
 use Rattle.nand_laws.specs.Within.{Bytes, pageOf, Within, Inside, sound-within}
 use Rattle.nand_laws.specs.Reasons as OfNand
-use Rattle.nand_laws.specs.Reasons.{Held, HeldOrTouched, Reason, error, reason-wide}
+use Rattle.nand_laws.specs.Fresh.{good-blank}
+use Rattle.nand_laws.specs.Reasons.{Held, HeldOrTouched, Reason, error, no-reason, reason-wide, surely}
 use Rattle.storage_laws.specs.Counted.{made-on}
 use Rattle.storage_laws.specs.View.{Shows, view, flush-or-failed}
 use Rattle.storage_laws.specs.Shown as Shown
@@ -222,3 +224,11 @@ pub example-nand : (l : Lent) (chip buf : List ℕ) → length (l .marks) ≡ 2 
     → InOrder l (dev (nandStore 2048 16 2 65536 0 0) chip buf)
 unfolding openedNand numbersOk geometryOk pageOk pagesOk oneOf chipOk listsOk parts partsOf total all scratchOk
 example-nand l chip buf m c b = nand-opening l chip buf 2048 16 2 65536 (lists [] [] [] []) 0 0 0 0 (nandStore 2048 16 2 65536 0 0) b (rw (m, c))
+
+-- so on a chip where nothing is wrong, the replay program's first write into its partition takes every byte
+pub example-write : (chip buf xs : List ℕ) → length chip ≡ 32768 → length buf ≡ 4096 → length xs ≤ 8192 → Bytes xs
+    → Done (length xs) (writing (lent [] (blanks 0)) 8192 xs (dev (norStore 32768 16384 0 0) chip buf))
+example-write chip buf xs c b h x =
+    let l = lent [] (blanks 0) in
+    let d = dev (norStore 32768 16384 0 0) chip buf in
+    surely (no-reason (good-blank 0)) (writing-or-met l d (example-nor l chip buf c b) 8192 xs (record { low = omega arith; short = omega arith }) x)
