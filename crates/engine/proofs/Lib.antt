@@ -1,4 +1,16 @@
 -- The laws of the definitions. For the functions above: `text-fits` and `window-fits` of Windows, `boot-length` of Tables.
+pub mod Numbers
+pub mod Commands
+pub mod Replies
+pub mod Streams
+pub mod Storings
+pub mod Runnings
+pub mod Tidies
+pub mod Execs
+pub mod Frames
+pub mod Fits
+pub mod Feeds
+pub mod Apis
 pub mod Lines
 pub mod Windows
 pub mod Tables

@@ -1,12 +1,12 @@
 -- Laws of the device table: the name's address, the cases of the name, and that the table is as long as its room.
-use mathlib.Core.Path.{_≡_, refl, ap, ap₂, _∙_}
+use mathlib.Core.Path.{_≡_, refl, sym, ap, ap₂, _∙_}
 use mathlib.Core.Bool.{Bool, true, false, cond}
 use mathlib.Core.List.{List}
 use Prim.Native.Nat.{ℕ, _+_, _%_, _^_, _≤_, _<_}
-use native.Mathlib.Nat.{mod-add-mod}
+use native.Mathlib.Nat.{mod-add-mod, add-mod-mod}
 use borrow.Author.Tests.{le-leb, lt-leb}
 use lib.Dec.{leb}
-use lib.ListN.{length, length-replicate}
+use lib.ListN.{length, replicate, length-replicate}
 use lib.Seq.{sets, length-sets}
 use Rattle.text.specs.Token.{ascii}
 use Rattle.wire.specs.Bytes.{laid}
@@ -45,3 +45,13 @@ module _ (base at : ℕ) (s : List ℕ) where
 pub boot-length : (base at block capacity : ℕ) (s : List ℕ) → length (bootTable base at block capacity s) ≡ length s
 unfolding bootTable bootWords
 boot-length base at block capacity s = name-length base at _ ∙ simp (laid-length, length-replicate)
+
+-- the place counts modulo 2^32, as the sum that is written does
+pub boot-wraps : (base at block capacity : ℕ) (s : List ℕ) → bootTable base (at % 2 ^ 32) block capacity s ≡ bootTable base at block capacity s
+unfolding bootTable bootName
+boot-wraps base at block capacity s =
+    ap (λ (k : ℕ). cond (leb 0x52 (length t)) (putWord (laid t 0x40 (ascii "artinchip spi-nor\0")) 0x24 k) t)
+    (sym (mod-add-mod (base + at % 2 ^ 32) (2 ^ 32) 0x40) ∙ ap (λ (k : ℕ). (k + 0x40) % 2 ^ 32) (add-mod-mod base at (2 ^ 32)) ∙ mod-add-mod (base + at) (2 ^ 32) 0x40)
+  where
+    t : List ℕ
+    t = bootWords block capacity (replicate (length s) 0)

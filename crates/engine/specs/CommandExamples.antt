@@ -6,6 +6,7 @@ use mathlib.Core.List.{[], _∷_, _++_}
 use lib.ListN.{length, take, drop, replicate}
 use Rattle.text.specs.Token.{ascii}
 use Rattle.wire.specs.Bytes.{bytesOf, le, wordAt}
+use Rattle.storage.specs.Open.{oneOf}
 use Rattle.wire.specs.Header.{checksumOf, headerOf}
 use Rattle.engine.specs.Reply.{ok, fail, unsupported, odd, sent, statusBy, replyBy}
 use Rattle.engine.specs.Command.{isQuery, hwinfo, tableText, pairOf, inside, readOf, wrote, writeOf}
@@ -48,9 +49,9 @@ unfolding bytesOf hwinfo
 hardware = (refl, refl, refl, refl, refl)
 
 -- READ only looks, WRITE does not; neither does a number that is no command
-pub queries : (isQuery 0x03 ≡ true) × (isQuery 0x02 ≡ false) × (isQuery 0x1A ≡ true) × (isQuery 0xFF ≡ false)
-unfolding isQuery
-queries = (refl, refl, refl, refl)
+pub looks : (isQuery 0x03 ≡ true) × (isQuery 0x02 ≡ false) × (isQuery 0x1A ≡ true) × (isQuery 0xFF ≡ false)
+unfolding oneOf isQuery
+looks = (refl, refl, refl, refl)
 
 -- ---- scratch 1 2 3 4 at 0x40
 

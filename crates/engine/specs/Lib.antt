@@ -6,5 +6,11 @@ pub mod Reply
 pub mod Command
 pub mod CommandExamples
 pub mod Storing
-pub mod Running
 pub mod StoringExamples
+pub mod Running
+pub mod Exec
+pub mod Stream
+pub mod Frame
+pub mod Feed
+pub mod Api
+pub mod ApiExamples

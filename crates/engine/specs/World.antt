@@ -17,6 +17,9 @@ pub record Given : Type 0 where
   pub lists : Lists
   pub table : List ℕ
 
+abbrev pub given : Lent → Lists → List ℕ → Given
+given l p t = record { lent = l; lists = p; table = t }
+
 -- the record, and every byte that a call may change
 pub record World : Type 0 where
   pub e : Engine
@@ -74,6 +77,9 @@ at-e e w = world e (w .request) (w .reply) (w .chip) (w .buffer) (w .scratch)
 
 abbrev pub at-reply : List ℕ → World → World
 at-reply p w = world (w .e) (w .request) p (w .chip) (w .buffer) (w .scratch)
+
+abbrev pub at-scratch : List ℕ → World → World
+at-scratch x w = world (w .e) (w .request) (w .reply) (w .chip) (w .buffer) x
 
 -- the storage of a world, and the world with another
 abbrev pub devOf : World → Dev

@@ -1,5 +1,13 @@
-// The upgrade engine, from protocol.rs and shell.rs. So far: its record, what commands read from their
-// payload, and the storage shell on values.
+// The upgrade engine, from protocol.rs and shell.rs: api has its public calls, feed cuts a write into
+// turns, frame gathers, exec and the files of commands execute, stream takes an update's payload.
+pub mod api;
 pub mod command;
+pub mod exec;
+pub mod feed;
+pub mod frame;
+pub mod reply;
+pub mod running;
 pub mod shell;
+pub mod storing;
+pub mod stream;
 pub mod types;

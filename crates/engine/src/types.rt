@@ -46,10 +46,24 @@ pub struct Did {
     pub e: Engine,
 }
 
-// How a command ended: answered with data, refused, not known, or with more data than a reply takes.
+// How a command ended: with so many bytes of data behind the header's place, failed, not known, or with
+// more data than a reply takes.
 pub enum Ended {
-    Ok(usize),
+    Ok(u32),
     Fail,
     Unsupported,
     Odd,
+}
+
+// What a command leaves: how it ended, and the record.
+pub struct Left {
+    pub ended: Ended,
+    pub e: Engine,
+}
+
+// What a turn of a write leaves: its status, the place of the next byte, and the record.
+pub struct Moved {
+    pub status: u8,
+    pub off: usize,
+    pub e: Engine,
 }

@@ -1,5 +1,4 @@
 -- Under eight bytes there is no pair; else its two words are read.
-use mathlib.Core.Path.{_≡_, refl}
 use borrow.Author.Needs.{needs}
 use borrow.Author.Tests.{lt-leb, le-leb}
 use Rattle.engine.specs.Command.{pairOf}
