@@ -1,0 +1,1 @@
+// No code: the laws of the engine over several calls are theorems in specs/.
