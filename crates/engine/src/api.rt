@@ -112,7 +112,7 @@ fn parts_ok(
 }
 
 // Is all as an opening and the calls since leave it.
-fn all_ok(
+pub fn all_ok(
     e: Engine,
     request: &[u8],
     reply: &[u8],

@@ -1,0 +1,3 @@
+-- The definitions that the contracts cite, a file for each of src/.
+pub mod Port
+pub mod Step
