@@ -82,11 +82,17 @@ pub fn perform(rng: &mut Rng, world: &World, act: Act, input: &mut Input) {
 }
 
 fn after(rng: &mut Rng, world: &World, input: &mut Input) {
-    match rng.case(&[70, 15, 15]) {
+    match rng.case(&[70, 10, 8, 12]) {
         0 => input.read(4112),
         1 => {
             input.read(rng.length(200) as u16);
             input.read(rng.pick(&[0, 16, 4, 4112]));
+            input.read(4112);
+        }
+        // A room of any size, and what is left.
+        2 => {
+            input.read(rng.within(0, 4112) as u16);
+            input.read(rng.length(4112) as u16);
             input.read(4112);
         }
         _ => {}
