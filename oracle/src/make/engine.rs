@@ -150,9 +150,7 @@ pub fn acts(rng: &mut Rng, world: &World) -> Vec<Act> {
             } else {
                 command
             };
-            let len = rng.within(0, 32) as usize;
-            let data = rng.bytes(len);
-            one(frame(command, &data))
+            one(frame(command, &short(rng)))
         }
         3 => one(memory(rng, world)),
         4 => one(shell_frame(rng, world)),
@@ -189,6 +187,18 @@ pub fn acts(rng: &mut Rng, world: &World) -> Vec<Act> {
             one(rng.bytes(len))
         }
     }
+}
+
+/// Up to 32 bytes: any, or numbers of which all but one byte are 0.
+fn short(rng: &mut Rng) -> Vec<u8> {
+    let len = rng.within(0, 32) as usize;
+    if len == 0 || rng.percent(60) {
+        return rng.bytes(len);
+    }
+    let mut data = vec![0; len];
+    let place = rng.within(0, len as u64 - 1) as usize;
+    data[place] = rng.pick(&[0, 1, 4, 24, 255]);
+    data
 }
 
 /// Metadata, data and the queries behind them, mostly as a host would send them.
