@@ -108,11 +108,13 @@ fn read(
     with_engine(o, a.e)
 }
 
+// The engine is reset.
 fn reset(n: u64, lab: Lab) -> Lab {
     line(n, b"reset\n");
     with_engine(lab.o, engine::api::cleared(lab.e))
 }
 
+// A flag as 0 or 1.
 fn flag(is: bool) {
     if is {
         and_number(1);
@@ -121,6 +123,7 @@ fn flag(is: bool) {
     and_number(0);
 }
 
+// Both flags.
 fn flags(n: u64, lab: Lab) -> Lab {
     line(n, b"flags");
     flag(engine::api::is_upgrading(lab.e));

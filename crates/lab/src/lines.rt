@@ -7,11 +7,13 @@ pub fn line(n: u64, word: &[u8]) {
     record::text(word);
 }
 
+// A space and a number.
 pub fn and_number(n: u64) {
     record::text(b" ");
     record::decimal(n);
 }
 
+// The end of a line.
 pub fn end_line() {
     record::text(b"\n");
 }

@@ -275,6 +275,7 @@ fn one(
     )
 }
 
+// Record after record, up to the end or to a malformed one.
 fn main() {
     let mut body_room = [0u8; 131072];
     let body: &mut [u8] = &mut body_room;

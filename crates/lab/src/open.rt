@@ -149,12 +149,14 @@ fn opens_engine(
     )
 }
 
+// An opening's line: 0, or the number of the refusal.
 fn told(n: u64, number: u8) {
     line(n, b"open");
     and_number(number as u64);
     end_line();
 }
 
+// What a storage's opening prints and leaves.
 fn opened_storage(n: u64, o: Opening, answer: Opened) -> Lab {
     match answer {
         Opened::Ready(store) => {
@@ -168,6 +170,7 @@ fn opened_storage(n: u64, o: Opening, answer: Opened) -> Lab {
     }
 }
 
+// What an engine's opening prints and leaves.
 fn opened_engine(n: u64, o: Opening, answer: engine::api::Opening) -> Lab {
     told(n, answer.number);
     if answer.number != 0 {

@@ -37,6 +37,7 @@ pub struct Opening {
     pub table: usize,
 }
 
+// The numbers as they stand in the body, whatever its length.
 pub fn opening_of(body: &[u8]) -> Opening {
     Opening {
         device: byte(body, 0),
@@ -107,20 +108,23 @@ pub fn opening_ok(body: &[u8], o: Opening) -> bool {
     o.modes == 0
 }
 
-// The names, the marks, the faults and the table text of an opening.
+// The names of an opening.
 pub fn names_of(body: &[u8], o: Opening) -> &[u8] {
     upto(from(body, names_at(body)), o.names)
 }
 
+// The marks, behind the names.
 pub fn marks_of(body: &[u8], o: Opening) -> &[u8] {
     upto(from(body, names_at(body) + half(body, 58)), o.marks)
 }
 
+// The faults, behind the marks.
 pub fn faults_of(body: &[u8], o: Opening) -> &[u8] {
     let at = names_at(body) + half(body, 58) + half(body, 60);
     upto(from(body, at), o.faults)
 }
 
+// The table text, behind the faults.
 pub fn table_of(body: &[u8], o: Opening) -> &[u8] {
     let at = names_at(body) + half(body, 58) + half(body, 60) + half(body, 62);
     upto(from(body, at), o.table)

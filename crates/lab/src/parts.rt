@@ -3,6 +3,7 @@ use wire::bytes::u16_at;
 use wire::bytes::u64_at;
 ghost use Prim.Native.Nat.{_≤_};
 
+// The byte at a place, and 0 past the end.
 pub fn byte(s: &[u8], at: usize) -> u8 {
     if at < s.len() {
         return s[at];
@@ -26,6 +27,7 @@ pub fn upto(s: &[u8], n: usize) -> &[u8] {
     &s[0..n]
 }
 
+// The same of a room that is lent for change.
 pub fn first(s: &mut [u8], n: usize) -> &mut [u8] {
     if s.len() < n {
         return &mut s[0..];
@@ -33,6 +35,7 @@ pub fn first(s: &mut [u8], n: usize) -> &mut [u8] {
     &mut s[0..n]
 }
 
+// The first n numbers, and all where there are fewer.
 pub fn first_numbers(s: &[u64], n: usize) -> &[u64] {
     if s.len() < n {
         return s;
@@ -40,6 +43,7 @@ pub fn first_numbers(s: &[u64], n: usize) -> &[u64] {
     &s[0..n]
 }
 
+// The two-byte number at a place.
 pub fn half(body: &[u8], at: usize) -> usize
     ensures { λ r. ⌜ r ≤ 65535 ⌝ }
 {
@@ -71,6 +75,7 @@ pub fn filled(chip: &mut [u8], fill: u8, step: u8) {
     }
 }
 
+// A room of zeros.
 pub fn zeros(s: &mut [u8]) {
     let mut i: usize = 0;
     while i < s.len() {

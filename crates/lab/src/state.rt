@@ -48,6 +48,7 @@ fn over(store: Store) -> Engine {
     }
 }
 
+// A storage is open.
 pub fn with_store(o: Opening, store: Store) -> Lab {
     Lab {
         open: 16,
@@ -56,6 +57,7 @@ pub fn with_store(o: Opening, store: Store) -> Lab {
     }
 }
 
+// An engine is open.
 pub fn with_engine(o: Opening, e: Engine) -> Lab {
     Lab {
         open: 17,
@@ -89,10 +91,12 @@ pub fn closed(o: Opening) -> Lab {
     }
 }
 
+// The run goes on.
 pub fn on(lab: Lab) -> Stepped {
     Stepped { go: true, lab: lab }
 }
 
+// A malformed record ends the run.
 pub fn bad(n: u64, lab: Lab) -> Stepped {
     line(n, b"bad\n");
     Stepped {

@@ -17,6 +17,7 @@ use storage::partition::Found;
 use wire::bytes::u32_at;
 use wire::bytes::u64_at;
 
+// Kind 32.
 fn flush(n: u64, lab: Lab, opening: &[u8], chip: &mut [u8], buffer: &mut [u8]) -> Lab {
     let o = lab.o;
     let a = storage::store::flush(
@@ -30,6 +31,7 @@ fn flush(n: u64, lab: Lab, opening: &[u8], chip: &mut [u8], buffer: &mut [u8]) -
     with_store(o, a.store)
 }
 
+// Kind 33.
 fn erase(n: u64, lab: Lab, opening: &[u8], chip: &mut [u8], buffer: &mut [u8], body: &[u8]) -> Lab {
     let o = lab.o;
     let a = storage::store::erase(
@@ -45,6 +47,7 @@ fn erase(n: u64, lab: Lab, opening: &[u8], chip: &mut [u8], buffer: &mut [u8], b
     with_store(o, a.store)
 }
 
+// Kind 34: bytes are written.
 fn put_in(
     n: u64,
     lab: Lab,
@@ -68,6 +71,7 @@ fn put_in(
     with_store(o, a.store)
 }
 
+// Kind 35: bytes are read into a room.
 fn get(
     n: u64,
     lab: Lab,
@@ -96,6 +100,7 @@ fn get(
     with_store(o, a.store)
 }
 
+// Kind 38: where a name's partition starts.
 fn at(n: u64, names: &[u8], offsets: &[u64], sizes: &[u64], lens: &[u64], body: &[u8]) {
     line(n, b"at");
     match storage::partition::lookup(offsets, sizes, lens, names, body) {
