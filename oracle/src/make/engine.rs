@@ -82,11 +82,17 @@ pub fn perform(rng: &mut Rng, world: &World, act: Act, input: &mut Input) {
 }
 
 fn after(rng: &mut Rng, world: &World, input: &mut Input) {
-    match rng.case(&[70, 15, 15]) {
+    match rng.case(&[70, 10, 8, 12]) {
         0 => input.read(4112),
         1 => {
             input.read(rng.length(200) as u16);
             input.read(rng.pick(&[0, 16, 4, 4112]));
+            input.read(4112);
+        }
+        // A room of any size, and what is left.
+        2 => {
+            input.read(rng.within(0, 4112) as u16);
+            input.read(rng.length(4112) as u16);
             input.read(4112);
         }
         _ => {}
@@ -144,9 +150,7 @@ pub fn acts(rng: &mut Rng, world: &World) -> Vec<Act> {
             } else {
                 command
             };
-            let len = rng.within(0, 32) as usize;
-            let data = rng.bytes(len);
-            one(frame(command, &data))
+            one(frame(command, &short(rng)))
         }
         3 => one(memory(rng, world)),
         4 => one(shell_frame(rng, world)),
@@ -183,6 +187,18 @@ pub fn acts(rng: &mut Rng, world: &World) -> Vec<Act> {
             one(rng.bytes(len))
         }
     }
+}
+
+/// Up to 32 bytes: any, or numbers of which all but one byte are 0.
+fn short(rng: &mut Rng) -> Vec<u8> {
+    let len = rng.within(0, 32) as usize;
+    if len == 0 || rng.percent(60) {
+        return rng.bytes(len);
+    }
+    let mut data = vec![0; len];
+    let place = rng.within(0, len as u64 - 1) as usize;
+    data[place] = rng.pick(&[0, 1, 4, 24, 255]);
+    data
 }
 
 /// Metadata, data and the queries behind them, mostly as a host would send them.

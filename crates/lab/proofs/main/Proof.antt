@@ -9,16 +9,22 @@ use Rattle.lab.proofs.main.Statement.{statement}
 use Rattle.lab.proofs.main.Tie as tie
 
 abbrev Inv-loop : tie.InvT-loop
-Inv-loop body₀ opening₀ chip₀ buffer₀ scratch₀ out₀ offsets₀ sizes₀ lens₀ lab₀ n₀ t26 body opening chip buffer scratch out offsets sizes lens lab n = n ≤ 18446744073709551615
+Inv-loop body₀ opening₀ request₀ reply₀ chip₀ buffer₀ scratch₀ out₀ offsets₀ sizes₀ lens₀ lab₀ n₀ t30 body opening request reply chip buffer scratch out offsets sizes lens lab n = n ≤ 18446744073709551615
 
 abbrev μ-loop : tie.MeasureT-loop
-μ-loop body₀ opening₀ chip₀ buffer₀ scratch₀ out₀ offsets₀ sizes₀ lens₀ lab₀ n₀ t26 body opening chip buffer scratch out offsets sizes lens lab n = 18446744073709551615 - n
+μ-loop body₀ opening₀ request₀ reply₀ chip₀ buffer₀ scratch₀ out₀ offsets₀ sizes₀ lens₀ lab₀ n₀ t30 body opening request reply chip buffer scratch out offsets sizes lens lab n = 18446744073709551615 - n
 
 slice-aggregate-body : tie.Need-slice-aggregate-body Inv-loop μ-loop
 slice-aggregate-body c = search needs
 
 slice-aggregate-opening : tie.Need-slice-aggregate-opening Inv-loop μ-loop
 slice-aggregate-opening c = search needs
+
+slice-aggregate-request : tie.Need-slice-aggregate-request Inv-loop μ-loop
+slice-aggregate-request c = search needs
+
+slice-aggregate-reply : tie.Need-slice-aggregate-reply Inv-loop μ-loop
+slice-aggregate-reply c = search needs
 
 slice-aggregate-chip : tie.Need-slice-aggregate-chip Inv-loop μ-loop
 slice-aggregate-chip c = sym (length-replicate {0} {A = ℕ} 1048576 0)
@@ -93,13 +99,13 @@ returns-3 : tie.Need-returns-3 Inv-loop μ-loop
 returns-3 c = search needs
 
 add-n : tie.Need-add-n Inv-loop μ-loop
-add-n c = omega (arith, c .before .before .before .before .before .before .before .before .before .before .before .before .before .before .before .before .before .before .before .before .before .before .before .before .before .before .before .before .before .before .before .before .before .before .before .before .before .loop-test .taken)
+add-n c = omega (arith, c .before .before .before .before .before .before .before .before .before .before .before .before .before .before .before .before .before .before .before .before .before .before .before .before .before .before .before .before .before .before .before .before .before .before .before .before .before .before .before .before .before .before .before .loop-test .taken)
 
 loop-less : tie.Need-loop-less Inv-loop μ-loop
-loop-less c = omega (arith, c .before .before .before .before .before .before .before .before .before .before .before .before .before .before .before .before .before .before .before .before .before .before .before .before .before .before .before .before .before .before .before .before .before .before .before .before .before .loop-test .taken)
+loop-less c = omega (arith, c .before .before .before .before .before .before .before .before .before .before .before .before .before .before .before .before .before .before .before .before .before .before .before .before .before .before .before .before .before .before .before .before .before .before .before .before .before .before .before .before .before .before .before .loop-test .taken)
 
 loop-again : tie.Need-loop-again Inv-loop μ-loop
-loop-again c = omega (arith, c .before .before .before .before .before .before .before .before .before .before .before .before .before .before .before .before .before .before .before .before .before .before .before .before .before .before .before .before .before .before .before .before .before .before .before .before .before .loop-test .taken)
+loop-again c = omega (arith, c .before .before .before .before .before .before .before .before .before .before .before .before .before .before .before .before .before .before .before .before .before .before .before .before .before .before .before .before .before .before .before .before .before .before .before .before .before .before .before .before .before .before .before .loop-test .taken)
 
 returns-4 : tie.Need-returns-4 Inv-loop μ-loop
 returns-4 c = search needs
@@ -112,6 +118,8 @@ main-spec =
     μ-loop
     slice-aggregate-body
     slice-aggregate-opening
+    slice-aggregate-request
+    slice-aggregate-reply
     slice-aggregate-chip
     slice-aggregate-buffer
     slice-aggregate-scratch

@@ -4,8 +4,8 @@ use Prim.Native.Nat.{_≤_, _-_, _*_}
 use mathlib.Core.Path.{_≡_}
 use native.Mathlib.Omega.{arith}
 use lib.ListN.{length, length-set}
-use Rattle.lab.proofs.numbers.Statement.{statement}
-use Rattle.lab.proofs.numbers.Tie as tie
+use Rattle.lab.proofs.parts.numbers.Statement.{statement}
+use Rattle.lab.proofs.parts.numbers.Tie as tie
 
 abbrev Inv-loop : tie.InvT-loop
 Inv-loop to₀ s i₀ at₀ to i at = (i ≤ length to₀) × (length to ≡ length to₀) × (at ≡ 8 * i)

@@ -1,26 +1,23 @@
--- Each turn sets one byte, so the length stays and `i` reaches it.
+-- Each turn sets one element, so the length stays and `i` reaches it.
 use borrow.Author.Needs.{needs}
 use Prim.Native.Nat.{_≤_, _-_}
 use mathlib.Core.Path.{_≡_}
 use native.Mathlib.Omega.{arith}
 use lib.ListN.{length, length-set}
-use Rattle.lab.proofs.filled.Statement.{statement}
-use Rattle.lab.proofs.filled.Tie as tie
+use Rattle.lab.proofs.parts.zeros.Statement.{statement}
+use Rattle.lab.proofs.parts.zeros.Tie as tie
 
 abbrev Inv-loop : tie.InvT-loop
-Inv-loop chip₀ fill step v₀ i₀ chip v i = (i ≤ length chip₀) × (length chip ≡ length chip₀)
+Inv-loop s₀ i₀ s i = (i ≤ length s₀) × (length s ≡ length s₀)
 
 abbrev μ-loop : tie.MeasureT-loop
-μ-loop chip₀ fill step v₀ i₀ chip v i = length chip₀ - i
+μ-loop s₀ i₀ s i = length s₀ - i
 
 loop-holds : tie.Need-loop-holds Inv-loop μ-loop
 loop-holds c = search needs
 
-slice-write-chip : tie.Need-slice-write-chip Inv-loop μ-loop
-slice-write-chip c = search needs
-
-wrapping-add-u8-requires : tie.Need-wrapping-add-u8-requires Inv-loop μ-loop
-wrapping-add-u8-requires c κs = search needs
+slice-write-s : tie.Need-slice-write-s Inv-loop μ-loop
+slice-write-s c = search needs
 
 add-i : tie.Need-add-i Inv-loop μ-loop
 add-i c = search needs
@@ -37,15 +34,14 @@ same-length c = search needs
 returns : tie.Need-returns Inv-loop μ-loop
 returns c = search needs
 
-pub filled-spec : {M : Type 1} → statement M
-filled-spec =
+pub zeros-spec : {M : Type 1} → statement M
+zeros-spec =
     tie.close
     (tie.spec
     Inv-loop
     μ-loop
     loop-holds
-    slice-write-chip
-    wrapping-add-u8-requires
+    slice-write-s
     add-i
     loop-less
     loop-again
