@@ -109,6 +109,10 @@ fn compare(lab: &Lab, name: &str, plan: Plan, count: u64, seed: u64) -> bool {
         let sessions: Vec<Vec<u8>> = (number..end).map(|n| session(seed, n, plan)).collect();
         let input = sessions.concat();
         let compared = lab.compare(&input);
+        if chunk > 1 && compared.len() != sessions.len() {
+            println!("{name}: a malformed record ended the run before session {end}");
+            return false;
+        }
         if let Some(first) = compared
             .iter()
             .position(|c| matches!(c.outcome, Outcome::Different))

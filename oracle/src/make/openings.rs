@@ -332,7 +332,11 @@ fn spoil_geometry(rng: &mut Rng, opening: &mut Opening) {
         0 => opening.page = rng.pick(&[0, 256, 511, 513, 768, 8192, 4096, 1 << 31]),
         1 => opening.pages = rng.pick(&[0, 3, 6, 255, 512, 1 << 31]),
         2 => opening.blocks = rng.pick(&[0, 4097, 1 << 31]),
-        3 => opening.chip_len = opening.chip_len.saturating_add_signed(rng.pick(&[-1, 1])),
+        // A chip over the limit would be no opening at all.
+        3 => {
+            let len = opening.chip_len.saturating_add_signed(rng.pick(&[-1, 1]));
+            opening.chip_len = len.min(1_048_576);
+        }
         4 => match rng.percent(50) {
             true => opening.marks.push(0xFF),
             false => drop(opening.marks.pop()),
@@ -347,7 +351,10 @@ fn spoil_geometry(rng: &mut Rng, opening: &mut Opening) {
     let product = product.saturating_mul(opening.blocks as u64);
     if opening.device == NAND && product <= 1_048_576 && rng.percent(70) {
         opening.chip_len = product as u32;
-        opening.marks.resize(opening.blocks as usize, 0xFF);
+        // More marks than a body holds would be no opening at all.
+        opening
+            .marks
+            .resize(opening.blocks.min(5000) as usize, 0xFF);
     }
 }
 
