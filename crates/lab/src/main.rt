@@ -3,7 +3,7 @@
 // body); a line is printed for each. Its stored input and output were made by the Rust (oracle/).
 // Kinds: 16 opens a storage and 17 an engine; 32 to 38 are calls on a storage; 1, 2, 3 and 5 calls on an
 // engine (write, read, reset, flags); 39 sets bytes of scratch, 40 looks. 4, a packet, finds nothing that
-// takes it: the packets are not there yet.
+// takes it: lab does not run the packets yet.
 mod engines;
 mod lines;
 mod open;
