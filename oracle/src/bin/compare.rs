@@ -156,9 +156,12 @@ impl Counts {
                 word.as_str(),
                 "open" | "write" | "flush" | "erase" | "flags"
             ) {
-                for more in words {
+                for more in words.by_ref() {
                     word = format!("{word} {more}");
                 }
+            }
+            if word == "in" {
+                word = sent(words.next().unwrap_or("")).to_string();
             }
             *self.words.entry(word).or_default() += 1;
         }
@@ -184,6 +187,22 @@ impl Counts {
             },
         );
         println!("{name}: {} lines ({})", self.lines, list(&self.words));
+    }
+}
+
+/// What a packet that was sent is: a CSW by its status and residue, or data.
+fn sent(hex: &str) -> &'static str {
+    if hex.len() != 26 || !hex.starts_with("55534253") {
+        return match hex.len() {
+            1024 => "in: 512 bytes",
+            _ => "in: fewer bytes",
+        };
+    }
+    match (&hex[24..], &hex[16..24]) {
+        ("00", "00000000") => "in: CSW, status 0",
+        ("00", _) => "in: CSW, status 0 and a residue",
+        (_, "00000000") => "in: CSW, status 1",
+        _ => "in: CSW, status 1 and a residue",
     }
 }
 

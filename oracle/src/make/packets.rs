@@ -2,7 +2,7 @@
 //! between.
 
 use super::engine::{Act, acts, open, perform};
-use super::frames::{cbw, shell};
+use super::frames::{cbw, frame, shell};
 use super::openings::World;
 use super::{Input, Rng};
 
@@ -16,7 +16,7 @@ pub fn session(rng: &mut Rng, input: &mut Input) {
         rng.within(1, 2)
     };
     for _ in 0..count {
-        match rng.case(&[60, 20, 4, 10, 6]) {
+        match rng.case(&[56, 18, 4, 10, 6, 5, 1]) {
             0 => {
                 for act in acts(rng, &world) {
                     match act {
@@ -40,10 +40,26 @@ pub fn session(rng: &mut Rng, input: &mut Input) {
                 after(rng, &world, input);
             }
             3 => read_stage(rng, input),
-            _ => {
+            4 => {
                 // Calls past the transport.
                 for act in acts(rng, &world) {
                     perform(rng, &world, act, input);
+                }
+            }
+            5 => {
+                // A reply of several packets, read in one stage or in some.
+                let most = world.opening.scratch_len.min(4096) as u64;
+                let len = most - rng.length(most);
+                let numbers = [world.opening.scratch_base, len as u32].map(u32::to_le_bytes);
+                write_stage(rng, &frame(0x03, &numbers.concat()), input);
+                for _ in 0..rng.within(1, 3) {
+                    read_stage(rng, input);
+                }
+            }
+            _ => {
+                asked(rng, input);
+                if rng.percent(70) {
+                    return;
                 }
             }
         }
@@ -75,6 +91,26 @@ fn odd_cbw(rng: &mut Rng, len: u32, command: u8) -> Vec<u8> {
     bytes
 }
 
+/// A reset that is asked for, without the CSW that closes the session at once: the next CSW for a
+/// valid CBW does, and a bad CBW or an over-long packet before it does not.
+fn asked(rng: &mut Rng, input: &mut Input) {
+    let line = shell("reset");
+    if rng.percent(50) {
+        input.write(&line);
+    } else {
+        let said = line.len() as u32 + 1;
+        input.packet(&odd_cbw(rng, said, 1));
+        input.packet(&line);
+        input.packet(b"ab");
+    }
+    input.flags();
+    for _ in 0..rng.within(0, 2) {
+        wrong_cbw(rng, input);
+    }
+    read_stage(rng, input);
+    input.packet(&[]);
+}
+
 fn write_stage(rng: &mut Rng, bytes: &[u8], input: &mut Input) {
     let len = bytes.len() as u32;
     let said = match rng.case(&[86, 4, 4, 3, 3]) {
@@ -85,6 +121,16 @@ fn write_stage(rng: &mut Rng, bytes: &[u8], input: &mut Input) {
         _ => len + 512,
     };
     input.packet(&odd_cbw(rng, said, 1));
+    if rng.percent(3) {
+        // The stage ends before it moved anything, or a call comes first.
+        match rng.case(&[3, 1]) {
+            0 => {
+                input.packet(&[]);
+                return;
+            }
+            _ => input.write(&frame(0x13, &[])),
+        }
+    }
     let style = rng.case(&[60, 15, 15, 10]);
     let mut left = said as usize;
     let mut rest = bytes;
@@ -104,12 +150,15 @@ fn write_stage(rng: &mut Rng, bytes: &[u8], input: &mut Input) {
         left = left.saturating_sub(take);
         rest = &rest[take..];
         if rng.percent(3) {
-            match rng.case(&[3, 2, 2, 1, 1]) {
+            match rng.case(&[3, 2, 2, 1, 1, 1, 1]) {
                 0 => input.packet(&[]),
                 1 => input.flags(),
                 2 => input.look(),
                 3 => input.reset(),
-                _ => input.read(20),
+                4 => input.read(20),
+                // Calls past the transport: a whole frame, and a piece of what comes.
+                5 => input.write(&frame(0x14, &[])),
+                _ => input.write(&rest[..rest.len().min(10)]),
             }
         }
         if left == 0 && rng.percent(70) {
