@@ -1,4 +1,4 @@
-// Calls on an engine: kinds 1, 2, 3 and 5. Each gets the rooms as long as the opening said.
+// Calls on an engine: kinds 1 to 5. Each gets the rooms as long as the opening said.
 use crate::lines::and_number;
 use crate::lines::end_line;
 use crate::lines::line;
@@ -7,6 +7,7 @@ use crate::opening::faults_of;
 use crate::opening::marks_of;
 use crate::opening::names_of;
 use crate::opening::table_of;
+use crate::packets::packet;
 use crate::parts::first;
 use crate::parts::half;
 use crate::parts::upto;
@@ -53,7 +54,7 @@ fn write(
         body,
     );
     told_write(n, a.status);
-    with_engine(o, a.e)
+    with_engine(o, a.e, lab.port)
 }
 
 // A read's line: the count and the bytes, or the refusal.
@@ -105,13 +106,13 @@ fn read(
     );
     let got = a.got;
     told_read(n, got, room);
-    with_engine(o, a.e)
+    with_engine(o, a.e, lab.port)
 }
 
-// The engine is reset.
+// The engine is reset, and nothing else.
 fn reset(n: u64, lab: Lab) -> Lab {
     line(n, b"reset\n");
-    with_engine(lab.o, engine::api::cleared(lab.e))
+    with_engine(lab.o, engine::api::cleared(lab.e), lab.port)
 }
 
 // A flag as 0 or 1.
@@ -182,6 +183,21 @@ pub fn on_engine(
             )
         }
         3 => reset(n, lab),
+        4 => packet(
+            n,
+            lab,
+            body,
+            opening,
+            request,
+            reply,
+            chip,
+            buffer,
+            scratch,
+            first(out, lab.o.sent),
+            offsets,
+            sizes,
+            lens,
+        ),
         _ => flags(n, lab),
     }
 }

@@ -1,13 +1,13 @@
 // The calls of storage and engine for any opening, so that both kinds of device, faults, partition lists
 // and refusals can be held against the Rust. Records come from standard input (u32 body length, u16 kind,
 // body); a line is printed for each. Its stored input and output were made by the Rust (oracle/).
-// Kinds: 16 opens a storage and 17 an engine; 32 to 38 are calls on a storage; 1, 2, 3 and 5 calls on an
-// engine (write, read, reset, flags); 39 sets bytes of scratch, 40 looks. 4, a packet, finds nothing that
-// takes it: lab does not run the packets yet.
+// Kinds: 16 opens a storage and 17 an engine; 32 to 38 are calls on a storage; 1 to 5 calls on an engine
+// (write, read, reset, packet, flags); 39 sets bytes of scratch, 40 looks.
 mod engines;
 mod lines;
 mod open;
 mod opening;
+mod packets;
 mod parts;
 mod state;
 mod stores;
@@ -98,15 +98,12 @@ fn look(n: u64, s: Store, chip: &[u8], scratch: &[u8]) {
     end_line();
 }
 
-// Does what is open take this kind: a storage 32 to 38, an engine 1 to 3 and 5.
+// Does what is open take this kind: a storage 32 to 38, an engine 1 to 5.
 fn takes(open: u16, kind: u16) -> bool {
     if open == 16 {
         return 32 <= kind;
     }
     if open == 17 {
-        if kind == 4 {
-            return false;
-        }
         return kind < 16;
     }
     false

@@ -24,6 +24,7 @@ use crate::state::on;
 use crate::state::with_engine;
 use crate::state::with_store;
 use storage::open::Opened;
+use transport::port::start;
 use wire::bytes::put;
 
 // The rooms as an opening finds them: its body kept, the chip filled, the others zeros.
@@ -176,7 +177,7 @@ fn opened_engine(n: u64, o: Opening, answer: engine::api::Opening) -> Lab {
     if answer.number != 0 {
         return closed(o);
     }
-    with_engine(o, answer.e)
+    with_engine(o, answer.e, start())
 }
 
 // A storage (kind 16) or an engine is opened on what the record says. The room for sent packets, of which

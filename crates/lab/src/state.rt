@@ -9,13 +9,16 @@ use storage::types::Erased;
 use storage::types::Kind;
 use storage::types::Shape;
 use storage::types::Store;
+use transport::port::Port;
+use transport::port::start;
 
-// What is open: nothing (0), a storage (16) or an engine (17), its opening and its record. A storage's
-// record stands where an engine has its own.
+// What is open: nothing (0), a storage (16) or an engine (17), its opening, its record and the state of its
+// packets. A storage's record stands where an engine has its own; its packets stay as they start.
 pub struct Lab {
     pub open: u16,
     pub o: Opening,
     pub e: Engine,
+    pub port: Port,
 }
 
 // What a record leaves, and whether the run goes on.
@@ -54,15 +57,17 @@ pub fn with_store(o: Opening, store: Store) -> Lab {
         open: 16,
         o: o,
         e: over(store),
+        port: start(),
     }
 }
 
-// An engine is open.
-pub fn with_engine(o: Opening, e: Engine) -> Lab {
+// An engine is open; its packets are in this state.
+pub fn with_engine(o: Opening, e: Engine, port: Port) -> Lab {
     Lab {
         open: 17,
         o: o,
         e: e,
+        port: port,
     }
 }
 
@@ -88,6 +93,7 @@ pub fn closed(o: Opening) -> Lab {
         open: 0,
         o: o,
         e: over(store),
+        port: start(),
     }
 }
 
