@@ -1,6 +1,8 @@
-// The upgrade engine, from protocol.rs and shell.rs: api has its public calls, feed cuts a write into
-// turns, frame gathers, exec and the files of commands execute, stream takes an update's payload.
+// The upgrade engine, from protocol.rs and shell.rs: api has its public calls, bus those on the caller's
+// own record, feed cuts a write into turns, frame gathers, exec and the files of commands execute,
+// stream takes an update's payload.
 pub mod api;
+pub mod bus;
 pub mod command;
 pub mod exec;
 pub mod feed;
