@@ -23,7 +23,7 @@ use Rattle.storage.specs.declared.types.Kind.the-variants.{Nor}
 use Rattle.storage.specs.declared.types.Shape.{Shape}
 use Rattle.storage.specs.Open.{norStore}
 use Rattle.storage.specs.Partition.{endOf}
-use Rattle.storage.specs.Store.{good, writing}
+use Rattle.storage.specs.Store.{writing}
 use Rattle.storage.proofs.Fold.{false-true}
 use Rattle.nand_laws.specs.Made.{failed-wide}
 use Rattle.nand_laws.specs.Within.{Inside}
@@ -43,7 +43,7 @@ use Rattle.engine.proofs.Feeds.{feed-step, feed-nil, then-go, then-stop, turn-f
 use Rattle.storage_laws.specs.Bounds.{either}
 use Rattle.engine_laws.specs.Carry.{turns-left, feeds-left}
 use Rattle.engine_laws.specs.Bounds.{norOpening, nor-opening-is, in-bounds, write-feeds, write-fits}
-use Rattle.engine_laws.specs.Split.{Steady, order-steady, On, on-start, on-steady, on-closed, Cleanly, unaimed-cut, fed-cut}
+use Rattle.engine_laws.specs.Split.{Steady, Still, order-steady, On, on-start, on-steady, on-closed, Cleanly, unaimed-cut, fed-cut}
 
 -- ---- a frame's piece in two
 
@@ -57,7 +57,7 @@ grown-cut : (w : World) (p q : List ℕ) → grown w (p ++ q) ≡ grown (grown w
 grown-cut w p q = rw (sets-append p q (w .request) (w .e .frame .len), length-append p q, ← add-assoc (w .e .frame .len) (length p) (length q))
 
 -- a frame that is not full yet
-fills-short : (g : Given) (w : World) → 0 < wantBy 0 (w .e .frame) → fills g w ≡ outOf 0 w
+pub fills-short : (g : Given) (w : World) → 0 < wantBy 0 (w .e .frame) → fills g w ≡ outOf 0 w
 unfolding fills ripens wantBy
 fills-short g w = go (eqb (w .e .frame .total) 0)
   where
@@ -66,10 +66,10 @@ fills-short g w = go (eqb (w .e .frame .total) 0)
     go true h = ap (λ (t : Bool). cond t (outOf 0 w) (heads g w)) (lt-ltb (w .e .frame .len) 16 (omega arith))
     go false h = ap (λ (t : Bool). cond t (outOf 0 w) (execs g w)) (lt-ltb (w .e .frame .len) (w .e .frame .total) (omega arith))
 
-abbrev longer : ℕ → Frame → Frame
+abbrev pub longer : ℕ → Frame → Frame
 longer m f = record { len = f .len + m; total = f .total }
 
-want-less : (f : Frame) (m : ℕ) → wantBy 0 (longer m f) ≡ wantBy 0 f - m
+pub want-less : (f : Frame) (m : ℕ) → wantBy 0 (longer m f) ≡ wantBy 0 f - m
 unfolding wantBy
 want-less f m = go (eqb (f .total) 0)
   where
@@ -77,7 +77,7 @@ want-less f m = go (eqb (f .total) 0)
     go true = omega arith
     go false = omega arith
 
-want-at : (left : ℕ) (f : Frame) → (left ≡ 0 → ⊥) → wantBy left f ≡ left
+pub want-at : (left : ℕ) (f : Frame) → (left ≡ 0 → ⊥) → wantBy left f ≡ left
 unfolding wantBy
 want-at left f h = ap (λ (t : Bool). cond t (cond (eqb (f .total) 0) (16 - f .len) (f .total - f .len)) left) (ne-eqb left 0 h)
 
@@ -111,7 +111,7 @@ module _ (g : Given) (p q : List ℕ) (w : World) where
   unfolding streams
   stream-turn d v h = sym (turn-stream g d v h)
 
-  fed-left : fed (g .lent) p w .e .up .left ≡ w .e .up .left - length p
+  pub fed-left : fed (g .lent) p w .e .up .left ≡ w .e .up .left - length p
   unfolding fed
   fed-left =
       either (λ (v : World). v .e .up .left ≡ w .e .up .left - length p) (w .e .up .aimed)
@@ -147,7 +147,7 @@ module _ (g : Given) (p q : List ℕ) (w : World) where
       }
 
 -- a ends within the first piece
-short-alone : (g : Given) (w : World) (a : List ℕ) → 0 < length a → length a < cutOf w → turns g a w .status ≡ 0 → feeds g w a ≡ outOf 0 (turns g a w .w)
+pub short-alone : (g : Given) (w : World) (a : List ℕ) → 0 < length a → length a < cutOf w → turns g a w .status ≡ 0 → feeds g w a ≡ outOf 0 (turns g a w .w)
 short-alone g w a h i z =
     feed-step g w a h
     ∙ rw (take-all (cutOf w) a (omega arith), drop-of-length-le a {i = cutOf w} (omega arith)) (then-go g (turns g a w) _ z)
@@ -287,12 +287,9 @@ module _ (g : Given) where
 
   -- ---- a NOR with no call told to fail
 
-  -- what is asked: a NOR in bounds that shows something, with no call from its next on told to fail
-  pub record Quiet (w : World) : Type 0 where
-    pub kind : w .e .store .shape .kind ≡ Nor
-    pub taken : good (g .lent) (devOf w) ≡ true
-    pub shows : Shows (view (devOf w)) (w .e .store .shape) (devOf w)
-    pub quiet : QuietFrom (g .lent .faults) (w .e .store .calls)
+  -- what is asked of a world's storage
+  abbrev pub Quiet : World → Type 0
+  Quiet w = Still (g .lent) (devOf w)
 
   -- as one in order is
   pub order-quiet : (w : World) → InOrder (g .lent) (devOf w) → w .e .store .shape .kind ≡ Nor → QuietFrom (g .lent .faults) (w .e .store .calls) → Quiet w
@@ -307,7 +304,7 @@ module _ (g : Given) where
       let o = nor-opening (g .lent) (w .chip) (w .buffer) (g .lists) base (length (w .scratch)) stage device s (i .1) in
       subst (λ (x : Opening). Quiet (at-e (x .e) w)) (sym (i .0)) (order-quiet (at-e (fresh base s) w) o refl q)
 
-  quiet-steady : (w : World) → Quiet w → Steady (g .lent) (devOf w)
+  pub quiet-steady : (w : World) → Quiet w → Steady (g .lent) (devOf w)
   quiet-steady w q = record { taken = q .taken; shows = λ _. q .shows }
 
   -- the rest of an open stream with a target lies within chip and capacity
@@ -328,18 +325,22 @@ module _ (g : Given) where
   pub cut-quiet : (w : World) (a b : List ℕ) → Quiet w → feeds g w a .status ≡ 0 → Room (feeds g w a .w) → feeds g w (a ++ b) ≡ feeds g (feeds g w a .w) b
   cut-quiet w a b q z r = cut w a b (quiet-steady w q) z (quiet-clean w (feeds g w a .w) q r)
 
-  -- a write leaves such a NOR
+  -- storage calls leave such a NOR
+  pub quiet-on : (w v : World) → Quiet w → On (g .lent) (devOf w) (devOf v) → Quiet v
+  quiet-on w v q o =
+      record {
+        kind = ap (λ (h : Shape). h .kind) (o .shape) ∙ q .kind;
+        taken = o .taken;
+        shows = subst (λ (h : Shape). Shows (view (devOf v)) h (devOf v)) (sym (o .shape)) (o .shows (q .kind));
+        quiet = quiet-later (g .lent .faults) (w .e .store .calls) (v .e .store .calls) (o .calls (q .kind)) (q .quiet);
+      }
+
+  -- and so does a write
   pub quiet-feeds : (w : World) (a : List ℕ) → Quiet w → Quiet (feeds g w a .w)
   quiet-feeds w a q =
       let l = g .lent in
       let d = devOf w in
-      let o = feeds-left g (On l d) (on-closed l d) w a .stays .store (on-start l d (quiet-steady w q)) in
-      record {
-        kind = ap (λ (h : Shape). h .kind) (o .shape) ∙ q .kind;
-        taken = o .taken;
-        shows = subst (λ (h : Shape). Shows (view (devOf (feeds g w a .w))) h (devOf (feeds g w a .w))) (sym (o .shape)) (o .shows (q .kind));
-        quiet = quiet-later (l .faults) (w .e .store .calls) (feeds g w a .w .e .store .calls) (o .calls (q .kind)) (q .quiet);
-      }
+      quiet-on w (feeds g w a .w) q (feeds-left g (On l d) (on-closed l d) w a .stays .store (on-start l d (quiet-steady w q)))
 
   -- ---- many cuts
 

@@ -26,6 +26,7 @@ use Rattle.nand_laws.specs.Made.{Failed}
 use Rattle.nand_laws.specs.Kept as NandKept
 use Rattle.nand_laws.specs.Cut.{both, cut}
 use Rattle.storage_laws.specs.Kept as NorKept
+use Rattle.storage_laws.specs.Faults.{QuietFrom}
 use Rattle.storage_laws.specs.View.{Shows, view, writes-or-failed}
 use Rattle.storage_laws.specs.Shown as Shown
 use Rattle.storage_laws.specs.Stream.{split, write-or-failed}
@@ -42,6 +43,13 @@ use Rattle.engine_laws.specs.Carry.{Closed}
 pub record Steady (l : Lent) (d : Dev) : Type 0 where
   pub taken : good l d ≡ true
   pub shows : d .store .shape .kind ≡ Nor → Shows (view d) (d .store .shape) d
+
+-- a NOR in bounds that shows something, with no call from its next on told to fail
+pub record Still (l : Lent) (d : Dev) : Type 0 where
+  pub kind : d .store .shape .kind ≡ Nor
+  pub taken : good l d ≡ true
+  pub shows : Shows (view d) (d .store .shape) d
+  pub quiet : QuietFrom (l .faults) (d .store .calls)
 
 -- a storage that calls have led to from d
 pub record On (l : Lent) (d e : Dev) : Type 0 where
@@ -206,7 +214,7 @@ module _ (l : Lent) (w : World) where
   abbrev place : ℕ
   place = w .e .up .target + w .e .up .written
 
-  fed-aimed : (p : List ℕ) → w .e .up .aimed ≡ true → fed l p w ≡ fedBy w p (writing l place p (devOf w))
+  pub fed-aimed : (p : List ℕ) → w .e .up .aimed ≡ true → fed l p w ≡ fedBy w p (writing l place p (devOf w))
   unfolding fed
   fed-aimed p e = ap (λ (b : Bool). cond b (fedBy w p (writing l place p (devOf w))) (at-e (with-up (taken p (length p) (w .e .up)) (w .e)) w)) e
 

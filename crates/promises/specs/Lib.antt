@@ -1,0 +1,4 @@
+-- What is promised, a file for each group of docs/PROMISES.md, and before each the files that it stands on.
+pub mod Runs
+pub mod Front
+pub mod Frames
