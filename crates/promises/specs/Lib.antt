@@ -6,4 +6,12 @@ pub mod FixedEngine
 pub mod Contracts
 pub mod Front
 pub mod Frames
+pub mod Aside
+pub mod Whole
+pub mod Cuts
+pub mod Flash
+pub mod Update
+pub mod Queries
+pub mod Promise
+pub mod Example
 pub mod TwelveLines
