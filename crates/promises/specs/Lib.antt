@@ -15,3 +15,12 @@ pub mod Queries
 pub mod Promise
 pub mod Example
 pub mod TwelveLines
+pub mod Picked
+pub mod Why
+pub mod Lines
+pub mod Answers
+pub mod Turns
+pub mod Reasons
+pub mod Replies
+pub mod Causes
+pub mod Refusals
