@@ -4,13 +4,13 @@
 use mathlib.Core.Path.{_≡_, refl, sym, ap, subst, _∙_}
 use mathlib.Core.Bool.{Bool, true, false, cond}
 use mathlib.Core.List.{List, [], _∷_, _++_, append-nil}
-use Prim.Native.Nat.{ℕ, _+_, _-_, _^_, _≤_, _<_}
+use Prim.Native.Nat.{ℕ, _+_, _-_, _^_, _≤_, _<_, min}
 use native.Mathlib.Nat.{add-zero}
 use native.Mathlib.Omega.{arith}
 use borrow.Author.Tests.{le-leb, eq-eqb, ne-eqb, ltb-true, ltb-false}
 use lib.Dec.{ltb, eqb}
-use lib.ListN.{length, take, drop, length-append, drop-of-length-le, take-append-drop}
-use lib.Seq.{sets, take-all, take-at, sets-eq}
+use lib.ListN.{length, take, drop, length-append, length-drop, drop-of-length-le, take-append-drop}
+use lib.Seq.{sets, length-take-le, take-all, take-at, sets-eq}
 use Rattle.wire.specs.Crc.{crc32}
 use Rattle.wire.specs.Lines.{p9}
 use Rattle.wire.specs.Header.{replyMagic, headerOf, parsed}
@@ -30,6 +30,9 @@ use Rattle.engine.specs.Storing.{afterFlush, targetOf, anew, aimedAt, answerTo,
 use Rattle.engine.specs.Exec.{groupOf, storing, runs, begun, answered}
 use Rattle.engine.specs.Stream.{burnBy, fedBy, fed, burnt, settledBy, settled, saidOf, finishes, streamedBy, streams, started, begins}
 use Rattle.engine.specs.Frame.{nextBy, nextOf, headedBy, grown}
+use Rattle.engine.specs.declared.api.Got.the-variants as got
+use Rattle.engine.specs.Api.{fits, reads}
+use Rattle.engine_laws.specs.Bounds.{in-bounds}
 use Rattle.engine.specs.Feed.{turns, cutOf, feeds}
 use Rattle.engine.proofs.Replies.{header-length}
 use Rattle.engine.proofs.Feeds.{feed-step, turn-stream}
@@ -59,6 +62,22 @@ replied-waits c bytes w i =
     let n = reply-length c bytes in
     let k : length x - 0 ≡ length x = omega arith in
     ap (λ (j : ℕ). take j (sets (w .reply) 0 x)) k ∙ ap (take (length x)) (sets-eq x (w .reply) 0 (omega arith)) ∙ take-at x (drop (0 + length x) (w .reply)) (length x) refl
+
+-- what waits is what a read gives, into a room that is long enough; the rest of the room stays
+pub waiting-read : (g : Given) (w : World) → fits g w ≡ true → (room : List ℕ) → length (waiting w) ≤ length room
+    → (let r = reads g w room in (r .got ≡ got.Count (length (waiting w))) × (r .room ≡ waiting w ++ drop (length (waiting w)) room))
+unfolding reads
+waiting-read g w f room i =
+    let m = in-bounds g w f .fit .mid in
+    let s = w .e .said in
+    let n : length (waiting w) ≡ s .len - s .pos =
+    length-take-le (s .len - s .pos) (drop (s .pos) (w .reply)) (rw length-drop (omega (arith, m .said .0, m .said .1, m .reply))) in
+    let k : min (s .len - s .pos) (length room) ≡ s .len - s .pos = omega arith in
+    let j : 0 + length (waiting w) ≡ length (waiting w) = omega arith in
+    rw f (
+      ap got.Count (k ∙ sym n),
+      ap (λ (a : ℕ). sets room 0 (take a (drop (s .pos) (w .reply)))) k ∙ sets-eq (waiting w) room 0 (omega arith) ∙ ap (λ (a : ℕ). waiting w ++ drop a room) j,
+    )
 
 -- ---- metadata
 
