@@ -24,3 +24,5 @@ pub mod Reasons
 pub mod Replies
 pub mod Causes
 pub mod Refusals
+pub mod Kept
+pub mod Failures

@@ -4,13 +4,13 @@
 use mathlib.Core.Path.{_≡_, refl, sym, ap, subst, _∙_}
 use mathlib.Core.Bool.{Bool, true, false, cond}
 use mathlib.Core.List.{List, [], _∷_, _++_, append-nil}
-use Prim.Native.Nat.{ℕ, _+_, _-_, _^_, _≤_, _<_, min}
+use Prim.Native.Nat.{ℕ, _+_, _-_, _^_, _≤_, _<_}
 use native.Mathlib.Nat.{add-zero}
 use native.Mathlib.Omega.{arith}
 use borrow.Author.Tests.{le-leb, eq-eqb, ne-eqb, ltb-true, ltb-false}
 use lib.Dec.{ltb, eqb}
-use lib.ListN.{length, take, drop, length-append, length-drop, drop-of-length-le, take-append-drop}
-use lib.Seq.{sets, length-take-le, take-all, take-at, sets-eq}
+use lib.ListN.{length, take, drop, length-append, drop-of-length-le, take-append-drop}
+use lib.Seq.{sets, take-all, take-at, sets-eq}
 use Rattle.wire.specs.Crc.{crc32}
 use Rattle.wire.specs.Lines.{p9}
 use Rattle.wire.specs.Header.{replyMagic, headerOf, parsed}
@@ -25,14 +25,11 @@ use Rattle.engine.specs.declared.storing.Target.{Target}
 use Rattle.engine.specs.declared.storing.Target.the-variants as target
 use Rattle.engine.specs.declared.frame.Next.the-variants.{Send}
 use Rattle.engine.specs.World.{Given, World, with-up, emptied, at-e, devOf, at-dev, Out, outOf}
-use Rattle.engine.specs.Reply.{ok, fail, ran, statusBy, replyBy, replied, ends}
+use Rattle.engine.specs.Reply.{Answer, ok, fail, ran, statusBy, replyBy, replied, ends}
 use Rattle.engine.specs.Storing.{afterFlush, targetOf, anew, aimedAt, answerTo, aims, isMeta, setMeta}
 use Rattle.engine.specs.Exec.{groupOf, storing, runs, begun, answered}
 use Rattle.engine.specs.Stream.{burnBy, fedBy, fed, burnt, settledBy, settled, saidOf, finishes, streamedBy, streams, started, begins}
 use Rattle.engine.specs.Frame.{nextBy, nextOf, headedBy, grown}
-use Rattle.engine.specs.declared.api.Got.the-variants as got
-use Rattle.engine.specs.Api.{fits, reads}
-use Rattle.engine_laws.specs.Bounds.{in-bounds}
 use Rattle.engine.specs.Feed.{turns, cutOf, feeds}
 use Rattle.engine.proofs.Replies.{header-length}
 use Rattle.engine.proofs.Feeds.{feed-step, turn-stream}
@@ -55,29 +52,16 @@ reply-length c bytes =
     length-append (headerOf replyMagic c 0 (length bytes)) bytes ∙ ap (λ (n : ℕ). n + length bytes) (header-length replyMagic c 0 (length bytes))
 
 -- a reply that was just laid waits, whole
-pub replied-waits : (c : ℕ) (bytes : List ℕ) (w : World) → 16 + length bytes ≤ length (w .reply) → waiting (replied c (ok bytes) w) ≡ replyBy c (ok bytes)
+pub laid-waits : (c : ℕ) (a : Answer) (w : World) → length (replyBy c a) ≤ length (w .reply) → waiting (replied c a w) ≡ replyBy c a
 unfolding replied
-replied-waits c bytes w i =
-    let x = replyBy c (ok bytes) in
-    let n = reply-length c bytes in
+laid-waits c a w i =
+    let x = replyBy c a in
     let k : length x - 0 ≡ length x = omega arith in
     ap (λ (j : ℕ). take j (sets (w .reply) 0 x)) k ∙ ap (take (length x)) (sets-eq x (w .reply) 0 (omega arith)) ∙ take-at x (drop (0 + length x) (w .reply)) (length x) refl
 
--- what waits is what a read gives, into a room that is long enough; the rest of the room stays
-pub waiting-read : (g : Given) (w : World) → fits g w ≡ true → (room : List ℕ) → length (waiting w) ≤ length room
-    → (let r = reads g w room in (r .got ≡ got.Count (length (waiting w))) × (r .room ≡ waiting w ++ drop (length (waiting w)) room))
-unfolding reads
-waiting-read g w f room i =
-    let m = in-bounds g w f .fit .mid in
-    let s = w .e .said in
-    let n : length (waiting w) ≡ s .len - s .pos =
-    length-take-le (s .len - s .pos) (drop (s .pos) (w .reply)) (rw length-drop (omega (arith, m .said .0, m .said .1, m .reply))) in
-    let k : min (s .len - s .pos) (length room) ≡ s .len - s .pos = omega arith in
-    let j : 0 + length (waiting w) ≡ length (waiting w) = omega arith in
-    rw f (
-      ap got.Count (k ∙ sym n),
-      ap (λ (a : ℕ). sets room 0 (take a (drop (s .pos) (w .reply)))) k ∙ sets-eq (waiting w) room 0 (omega arith) ∙ ap (λ (a : ℕ). waiting w ++ drop a room) j,
-    )
+-- as one with data does
+pub replied-waits : (c : ℕ) (bytes : List ℕ) (w : World) → 16 + length bytes ≤ length (w .reply) → waiting (replied c (ok bytes) w) ≡ replyBy c (ok bytes)
+replied-waits c bytes w i = laid-waits c (ok bytes) w (omega (arith, reply-length c bytes))
 
 -- ---- metadata
 
