@@ -2,10 +2,11 @@
 //!
 //!     sessions SEED COUNT KIND [whole] > RECORDS
 //!
-//! KIND is storage, engine, packets or shapes, with `:nor` or `:nand` behind it for one device. The
-//! sessions follow from the seed; a larger COUNT only adds some at the end. `whole` leaves out the
-//! sessions that the Rust can't answer whole, so that its lines can be kept for the lab program. A
-//! session of the kind shapes ends the run, so only one of them is of use.
+//! KIND is storage, engine, packets, shapes or exhaustive, with `:nor` or `:nand` behind it for one
+//! device. The sessions follow from the seed; a larger COUNT only adds some at the end. Those of the
+//! kind exhaustive are the same for every seed and count. `whole` leaves out the sessions that the
+//! Rust can't answer whole, so that its lines can be kept for the lab program. A session of the kind
+//! shapes ends the run, so only one of them is of use.
 
 use std::io::{BufWriter, Write, stdout};
 
@@ -28,11 +29,12 @@ fn main() {
         _ => None,
     };
     let Some(((seed, count), plan)) = parsed else {
-        eprintln!("usage: sessions SEED COUNT storage|engine|packets|shapes [whole] > RECORDS");
+        let kinds = "storage|engine|packets|shapes|exhaustive";
+        eprintln!("usage: sessions SEED COUNT {kinds} [whole] > RECORDS");
         std::process::exit(2);
     };
     let mut out = BufWriter::new(stdout().lock());
-    for number in 0..count {
+    for number in 0..plan.count(count) {
         let bytes = session(seed, number, plan);
         if whole {
             let tally = run(&bytes, Options { figure: true }, &mut vec![]);

@@ -2,6 +2,7 @@
 //! calls behind it.
 
 mod engine;
+mod exhaustive;
 mod frames;
 mod lines;
 mod openings;
@@ -34,6 +35,8 @@ pub enum Kind {
     Packets,
     /// Any of these, then a malformed record that ends the run, and records behind it.
     Shapes,
+    /// All of some short ranges, whatever the seed.
+    Exhaustive,
 }
 
 impl Plan {
@@ -50,9 +53,23 @@ impl Plan {
             "engine" => Kind::Engine,
             "packets" => Kind::Packets,
             "shapes" => Kind::Shapes,
+            "exhaustive" => Kind::Exhaustive,
             _ => return None,
         };
         Some(Self { kind, device })
+    }
+
+    /// How many sessions there are where so many are asked for.
+    pub fn count(self, asked: u64) -> u64 {
+        match self.kind {
+            Kind::Exhaustive => exhaustive::count(self.device),
+            _ => asked,
+        }
+    }
+
+    /// What a session belongs to, for the kind that has parts.
+    pub fn part(self, number: u64) -> Option<String> {
+        (self.kind == Kind::Exhaustive).then(|| exhaustive::name(self.device, number))
     }
 }
 
@@ -63,7 +80,10 @@ pub fn session(seed: u64, number: u64, plan: Plan) -> Vec<u8> {
         device: plan.device,
         ..Input::default()
     };
-    fill(&mut rng, plan.kind, &mut input);
+    match plan.kind {
+        Kind::Exhaustive => exhaustive::session(number, &mut input),
+        kind => fill(&mut rng, kind, &mut input),
+    }
     input.bytes
 }
 
@@ -73,6 +93,7 @@ fn fill(rng: &mut Rng, kind: Kind, input: &mut Input) {
         Kind::Engine => engine::session(rng, input),
         Kind::Packets => packets::session(rng, input),
         Kind::Shapes => shapes::session(rng, input),
+        Kind::Exhaustive => unreachable!("nothing there is left to the seed"),
     }
 }
 
