@@ -51,5 +51,7 @@ pub mod quiet;
 pub mod record;
 pub mod run;
 pub mod scratch;
+pub mod show;
+pub mod shrink;
 pub mod transport;
 pub mod wrap;

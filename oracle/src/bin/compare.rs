@@ -1,12 +1,13 @@
 //! Compares the lab program with the Rust over generated sessions.
 //!
-//!     LAB=PROGRAM KINDS='storage engine packets' compare COUNT SEED FOLDER
+//!     LAB=PROGRAM KINDS='storage engine packets exhaustive' compare COUNT SEED FOLDER
 //!
 //! COUNT sessions of each kind; FOLDER takes the inputs and outputs of the moment. Exit status 0
 //! without a difference, 1 with one, 2 if the lab program can't be run.
 
 use std::collections::BTreeMap;
 use std::fs::{self, File};
+use std::io::{IsTerminal, stderr};
 use std::path::PathBuf;
 use std::process::{Command, Stdio, exit};
 use std::thread::sleep;
@@ -14,12 +15,20 @@ use std::time::{Duration, Instant};
 
 use harness::make::{Kind, Plan, session};
 use harness::record::{Next, OPEN_ENGINE, OPEN_STORAGE, Reader};
-use harness::run::{Options, check_build, push_hex, run};
+use harness::run::{Options, check_build, run};
+use harness::show::show;
+use harness::shrink::{fewer, shrink};
 
 /// Sessions that share one run.
 const CHUNK: u64 = 1000;
 /// The lab program is ended after so many seconds.
 const PATIENCE: u64 = 120;
+/// Shrinking a session that differs stops after this time.
+const SHRINK: Duration = Duration::from_secs(60);
+/// Where standard error is no terminal, a line of progress after so many seconds.
+const PROGRESS: u64 = 10;
+/// What is compared if KINDS isn't set.
+const KINDS: &str = "storage engine packets exhaustive";
 
 /// The lab program and where its input and output go.
 struct Lab {
@@ -53,6 +62,8 @@ struct Counts {
     skips: BTreeMap<String, u64>,
     lines: u64,
     words: BTreeMap<String, u64>,
+    /// The parts of a kind that has some, in their order.
+    parts: Vec<(String, u64)>,
 }
 
 fn main() {
@@ -66,11 +77,11 @@ fn main() {
         _ => None,
     };
     let Some(((count, seed), folder)) = numbers else {
-        eprintln!("usage: LAB=PROGRAM KINDS='storage engine packets' compare COUNT SEED FOLDER");
+        eprintln!("usage: LAB=PROGRAM KINDS='{KINDS}' compare COUNT SEED FOLDER");
         exit(2);
     };
     let variable = |name: &str, default: &str| std::env::var(name).unwrap_or(default.to_string());
-    let kinds = variable("KINDS", "storage engine packets");
+    let kinds = variable("KINDS", KINDS);
     let lab = Lab {
         program: variable("LAB", "target/bin/lab").into(),
         folder: folder.into(),
@@ -96,13 +107,13 @@ fn main() {
 
 /// All sessions of a kind. False after a difference.
 fn compare(lab: &Lab, name: &str, plan: Plan, count: u64, seed: u64) -> bool {
-    let start = Instant::now();
     // A session of this kind ends the run, and starting the program takes its time.
     let (count, chunk) = match plan.kind {
         Kind::Shapes => (count.min(300), 1),
-        _ => (count, CHUNK),
+        _ => (plan.count(count), CHUNK),
     };
     let mut counts = Counts::default();
+    let mut progress = Progress::new(name, count);
     let mut number = 0;
     while number < count {
         let end = (number + chunk).min(count);
@@ -113,33 +124,84 @@ fn compare(lab: &Lab, name: &str, plan: Plan, count: u64, seed: u64) -> bool {
             println!("{name}: a malformed record ended the run before session {end}");
             return false;
         }
-        if let Some(first) = compared
-            .iter()
-            .position(|c| matches!(c.outcome, Outcome::Different))
-        {
-            println!("{name}: session {} differs", number + first as u64);
-            explain(lab, &compared, first);
+        let differ: Vec<usize> = (0..compared.len())
+            .filter(|&i| matches!(compared[i].outcome, Outcome::Different))
+            .collect();
+        if let Some(&first) = differ.first() {
+            progress.end();
+            println!(
+                "{name}: {} of the sessions {number} to {} differ",
+                differ.len(),
+                end - 1
+            );
+            let smallest = smallest(lab, &compared, &differ);
+            let which = number + smallest.unwrap_or(first) as u64;
+            let part = plan.part(which).map(|part| format!(" ({part})"));
+            println!("session {which}{}", part.unwrap_or_default());
+            explain(lab, &compared, smallest, first);
             println!("seed {seed}");
             return false;
         }
-        for session in &compared {
-            counts.add(session);
+        for (session, number) in compared.iter().zip(number..) {
+            counts.add(session, plan.part(number));
         }
         number = end;
-        if chunk > 1 || number == count {
-            eprintln!(
-                "compare: {name} {number} of {count}, {:.1} s",
-                start.elapsed().as_secs_f64()
-            );
-        }
+        progress.at(number);
     }
-    counts.print(name, start.elapsed().as_secs_f64());
+    progress.end();
+    counts.print(name, progress.start.elapsed().as_secs_f64());
     true
 }
 
+/// How far a kind is, on standard error: one line that is written over, or a line now and then.
+struct Progress<'a> {
+    name: &'a str,
+    count: u64,
+    start: Instant,
+    last: Instant,
+    terminal: bool,
+}
+
+impl<'a> Progress<'a> {
+    fn new(name: &'a str, count: u64) -> Self {
+        let now = Instant::now();
+        Self {
+            name,
+            count,
+            start: now,
+            last: now,
+            terminal: stderr().is_terminal(),
+        }
+    }
+
+    fn at(&mut self, number: u64) {
+        let (name, count) = (self.name, self.count);
+        let seconds = self.start.elapsed().as_secs_f64();
+        let line = format!("compare: {name} {number} of {count}, {seconds:.1} s");
+        if self.terminal {
+            eprint!("\r{line}");
+        } else if self.last.elapsed().as_secs() >= PROGRESS || number == count {
+            eprintln!("{line}");
+            self.last = Instant::now();
+        }
+    }
+
+    fn end(&self) {
+        if self.terminal {
+            eprintln!();
+        }
+    }
+}
+
 impl Counts {
-    fn add(&mut self, session: &Compared<'_>) {
+    fn add(&mut self, session: &Compared<'_>, part: Option<String>) {
         self.sessions += 1;
+        if let Some(part) = part {
+            match self.parts.last_mut() {
+                Some((last, count)) if *last == part => *count += 1,
+                _ => self.parts.push((part, 1)),
+            }
+        }
         match &session.outcome {
             Outcome::Skip(why) => {
                 *self.skips.entry(why.clone()).or_default() += 1;
@@ -187,6 +249,9 @@ impl Counts {
             },
         );
         println!("{name}: {} lines ({})", self.lines, list(&self.words));
+        for (part, count) in &self.parts {
+            println!("{name}: {part}: {count}");
+        }
     }
 }
 
@@ -330,30 +395,44 @@ fn outcome(ours: &[String], theirs: &[String]) -> Outcome {
     }
 }
 
-/// Shrinks the first session that differs and prints it with both outputs.
-fn explain(lab: &Lab, compared: &[Compared<'_>], first: usize) {
-    let mut records: Vec<Vec<u8>> = compared[first].records.iter().map(|r| r.to_vec()).collect();
-    if !lab.differs(&records.concat()) {
-        // It takes the sessions before it: drop as many of those as go.
-        println!("alone it does not differ; shown with what it needs before it");
-        let mut sessions: Vec<Vec<u8>> = compared[..=first]
-            .iter()
-            .map(|session| session.records.concat())
-            .collect();
-        shrink(&mut sessions, 0, &|sessions| {
-            lab.differs(&sessions.concat())
-        });
-        let input = sessions.concat();
-        records = split(&input).0.iter().map(|r| r.to_vec()).collect();
-    }
-    let before = records.len();
-    shrink(&mut records, 1, &|records| lab.differs(&records.concat()));
+/// The smallest session that differs by itself: after a failure of the lab program all that stand
+/// behind it differ too, but for no fault of theirs.
+fn smallest(lab: &Lab, compared: &[Compared<'_>], differ: &[usize]) -> Option<usize> {
+    const MOST: usize = 100;
+    let mut by_size = differ.to_vec();
+    by_size.sort_by_key(|&i| compared[i].records.iter().map(|r| r.len()).sum::<usize>());
+    let mut tried = by_size
+        .into_iter()
+        .take(MOST)
+        .chain(differ.first().copied());
+    tried.find(|&i| lab.differs(&compared[i].records.concat()))
+}
+
+/// Shrinks a session that differs and prints it with both outputs. Where none differs by itself it
+/// is the first with those before it that it needs.
+fn explain(lab: &Lab, compared: &[Compared<'_>], smallest: Option<usize>, first: usize) {
+    let holds = |records: &[Vec<u8>]| lab.differs(&records.concat());
+    let records: Vec<Vec<u8>> = match smallest {
+        Some(which) => compared[which].records.iter().map(|r| r.to_vec()).collect(),
+        None => {
+            println!("alone it does not differ; shown with what it needs before it");
+            let sessions = compared[..=first].iter().map(|s| s.records.concat());
+            let input = fewer(sessions.collect(), 0, &holds).concat();
+            split(&input).0.iter().map(|r| r.to_vec()).collect()
+        }
+    };
+    let before = (records.len(), records.concat().len());
+    let records = shrink(records, 1, SHRINK, &holds);
     let input = records.concat();
-    println!("{before} records, shrunk to {}:", records.len());
+    println!(
+        "{} records of {} bytes, shrunk to {} of {}:",
+        before.0,
+        before.1,
+        records.len(),
+        input.len()
+    );
     for (number, record) in records.iter().enumerate() {
-        let mut line = String::new();
-        push_hex(&mut line, record);
-        println!("  {number}: {line}");
+        println!("  {number}: {}", show(record));
     }
     for session in lab.compare(&input) {
         println!("the Rust:");
@@ -369,29 +448,5 @@ fn explain(lab: &Lab, compared: &[Compared<'_>], first: usize) {
 fn print_lines(lines: &[String]) {
     for line in lines {
         println!("  {line}");
-    }
-}
-
-/// Drops items, many at a time and then one by one, while `holds`; the first `keep` stay.
-fn shrink(items: &mut Vec<Vec<u8>>, keep: usize, holds: &dyn Fn(&[Vec<u8>]) -> bool) {
-    let mut size = items.len().saturating_sub(keep).max(1);
-    loop {
-        let mut dropped = false;
-        // From the end: what stands behind the difference goes first.
-        let mut end = items.len();
-        while end > keep {
-            let start = end.saturating_sub(size).max(keep);
-            let mut fewer = items.clone();
-            fewer.drain(start..end);
-            if holds(&fewer) {
-                *items = fewer;
-                dropped = true;
-            }
-            end = start;
-        }
-        if size == 1 && !dropped {
-            return;
-        }
-        size = (size / 2).max(1);
     }
 }
