@@ -4,7 +4,7 @@
 
 use std::sync::OnceLock;
 
-use super::frames::{SEND, cbw, frame, header, meta};
+use super::frames::{SEND, cbw, frame, header, meta, shell};
 use super::{Input, Rng};
 use crate::opening::{NAND, NOR, Opening};
 use crate::run::{Options, run};
@@ -16,7 +16,7 @@ struct Family {
     make: fn(u8, u64, &mut Input),
 }
 
-const FAMILIES: [Family; 13] = [
+const FAMILIES: [Family; 17] = [
     Family {
         name: "commands, engine just opened",
         count: |_| COMMANDS,
@@ -82,6 +82,26 @@ const FAMILIES: [Family; 13] = [
         count: |device| LENGTHS * (small(device).chip_len as u64 + 2),
         make: offsets,
     },
+    Family {
+        name: "windows of READ, WRITE, bdread and bdwrite about scratch",
+        count: |_| 4 * 46 * 46,
+        make: windows,
+    },
+    Family {
+        name: "windows of get_bootdevice about scratch",
+        count: |_| 105 * 104,
+        make: tables,
+    },
+    Family {
+        name: "frames with about 8,192 bytes of data",
+        count: |_| LONG_COMMANDS.len() as u64 * 101,
+        make: long_frames,
+    },
+    Family {
+        name: "replies with about 4,096 bytes of data",
+        count: |_| 2 * 61,
+        make: long_replies,
+    },
 ];
 
 /// 256 commands, data of 0 to 32 bytes, three patterns.
@@ -92,6 +112,8 @@ const SCENES: u64 = 6;
 const PAIRS: u64 = 190;
 /// Lengths tried at every offset of a storage.
 const LENGTHS: u64 = 5;
+/// Commands tried with about 8,192 bytes of data.
+const LONG_COMMANDS: [u8; 6] = [0x00, 0x02, 0x05, 0x10, 0x18, 0x1B];
 /// The longest write that the lab program takes.
 const LONGEST_WRITE: usize = 4096;
 const BASE: u32 = 0x4000_0000;
@@ -500,4 +522,77 @@ fn offsets(device: u8, n: u64, input: &mut Input) {
     input.put(offset, &[4, 5, 6]);
     input.flush();
     input.look();
+}
+
+/// From three bytes below scratch, which has 40, to two past its end, with lengths from 0 to 45.
+fn windows(device: u8, n: u64, input: &mut Input) {
+    let (len, place, which) = ((n % 46) as u32, (n / 46 % 46) as u32, n / 2116);
+    let address = BASE - 3 + place;
+    input.open_engine(&small(device));
+    input.poke(0, &payload(40));
+    let bytes = match which {
+        0 => frame(0x03, &pair(address, len)),
+        1 => frame(
+            0x02,
+            &[pair(address, len), vec![0xA5; len as usize]].concat(),
+        ),
+        2 => shell(&format!("bdread 0 500 {len} {address:#x}")),
+        _ => shell(&format!("bdwrite 0 500 {len} {address}")),
+    };
+    input.write(&bytes);
+    input.read(4112);
+    input.look();
+}
+
+/// The same for the device table, which fills 82 bytes: from two below a scratch of 100 to two past
+/// its end, lengths from 0 to 103.
+fn tables(device: u8, n: u64, input: &mut Input) {
+    let (len, place) = ((n % 104) as u32, (n / 104) as u32);
+    input.open_engine(&Opening {
+        scratch_len: 100,
+        ..small(device)
+    });
+    input.poke(0, &[0xEE; 100]);
+    let address = BASE - 2 + place;
+    input.write(&shell(&format!("get_bootdevice {address} {len}")));
+    input.read(4112);
+    input.look();
+}
+
+/// 8,142 to 8,242 bytes of data, all of them sent, and a query behind.
+fn long_frames(device: u8, n: u64, input: &mut Input) {
+    let (len, command) = (8142 + n as usize % 101, LONG_COMMANDS[n as usize / 101]);
+    let mut data = payload(len);
+    // For WRITE a window inside scratch; for the shell a line; for ERASE_STORAGE a range.
+    let start = sensible(command, 16);
+    data[..16].copy_from_slice(&start);
+    if command == 0x10 {
+        data[len - 512..].copy_from_slice(&meta(b"app"));
+    }
+    input.open_engine(&small(device));
+    writes(&frame(command, &data), LONGEST_WRITE, input);
+    input.read(4112);
+    ask(0x15, &[], input);
+    input.flags();
+    input.look();
+}
+
+/// 4,070 to 4,130 bytes: READ of scratch, and the table text.
+fn long_replies(device: u8, n: u64, input: &mut Input) {
+    let len = 4070 + n as usize / 2;
+    let mut opening = small(device);
+    opening.scratch_len = 4200;
+    if n.is_multiple_of(2) {
+        opening.table = vec![b't'; len];
+    }
+    input.open_engine(&opening);
+    input.poke(0, &payload(4200));
+    let bytes = match n % 2 {
+        0 => frame(0x17, &[]),
+        _ => frame(0x03, &pair(BASE + 1, len as u32)),
+    };
+    input.write(&bytes);
+    input.read(4112);
+    input.read(4112);
+    ask(0x15, &[], input);
 }
