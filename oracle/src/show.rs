@@ -93,6 +93,9 @@ fn opening(opening: &Opening) -> String {
 }
 
 fn bytes(bytes: &[u8]) -> String {
+    if bytes.is_empty() {
+        return "none".to_string();
+    }
     let mut line = String::new();
     for run in bytes.chunk_by(|a, b| a == b) {
         if run.len() > 8 {

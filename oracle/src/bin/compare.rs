@@ -9,13 +9,13 @@ use std::collections::BTreeMap;
 use std::fs::{self, File};
 use std::io::{IsTerminal, stderr};
 use std::path::PathBuf;
-use std::process::{Command, Stdio, exit};
+use std::process::{Child, Command, Stdio, exit};
 use std::thread::sleep;
 use std::time::{Duration, Instant};
 
 use harness::make::{Kind, Plan, session};
 use harness::record::{Next, OPEN_ENGINE, OPEN_STORAGE, Reader};
-use harness::run::{Options, check_build, run};
+use harness::run::{Options, Tally, check_build, run};
 use harness::show::show;
 use harness::shrink::{fewer, shrink};
 
@@ -59,6 +59,7 @@ struct Counts {
     sessions: u64,
     whole: u64,
     panics: u64,
+    reasons: BTreeMap<String, u64>,
     skips: BTreeMap<String, u64>,
     lines: u64,
     words: BTreeMap<String, u64>,
@@ -119,7 +120,7 @@ fn compare(lab: &Lab, name: &str, plan: Plan, count: u64, seed: u64) -> bool {
         let end = (number + chunk).min(count);
         let sessions: Vec<Vec<u8>> = (number..end).map(|n| session(seed, n, plan)).collect();
         let input = sessions.concat();
-        let compared = lab.compare(&input);
+        let (compared, tally) = lab.compare(&input);
         if chunk > 1 && compared.len() != sessions.len() {
             println!("{name}: a malformed record ended the run before session {end}");
             return false;
@@ -144,6 +145,9 @@ fn compare(lab: &Lab, name: &str, plan: Plan, count: u64, seed: u64) -> bool {
         }
         for (session, number) in compared.iter().zip(number..) {
             counts.add(session, plan.part(number));
+        }
+        for (why, count) in tally.panics {
+            *counts.reasons.entry(why).or_default() += count;
         }
         number = end;
         progress.at(number);
@@ -248,6 +252,9 @@ impl Counts {
                 false => format!(" ({})", list(&self.skips)),
             },
         );
+        for (why, count) in &self.reasons {
+            println!("{name}: {count} panics of the Rust at {why}");
+        }
         println!("{name}: {} lines ({})", self.lines, list(&self.words));
         for (part, count) in &self.parts {
             println!("{name}: {part}: {count}");
@@ -272,12 +279,12 @@ fn sent(hex: &str) -> &'static str {
 }
 
 impl Lab {
-    /// The lab program's output. What it printed before it failed or was ended counts too.
-    fn output(&self, input: &[u8]) -> String {
+    /// Starts the lab program on an input.
+    fn start(&self, input: &[u8]) -> Child {
         let (stdin, stdout) = (self.folder.join("input"), self.folder.join("output"));
         fs::write(&stdin, input).expect("the input for the lab program");
         let output = File::create(&stdout).expect("the output of the lab program");
-        let mut child = Command::new(&self.program)
+        Command::new(&self.program)
             .stdin(File::open(&stdin).expect("the input for the lab program"))
             .stdout(output)
             .stderr(Stdio::null())
@@ -285,7 +292,11 @@ impl Lab {
             .unwrap_or_else(|error| {
                 eprintln!("compare: {}: {error}", self.program.display());
                 exit(2);
-            });
+            })
+    }
+
+    /// The output of the lab program. What it printed before it failed or was ended counts too.
+    fn output(&self, mut child: Child) -> String {
         let start = Instant::now();
         let mut pause = 1;
         while child.try_wait().expect("the lab program").is_none() {
@@ -298,16 +309,17 @@ impl Lab {
             sleep(Duration::from_millis(pause));
             pause = (pause * 2).min(50);
         }
-        let bytes = fs::read(&stdout).expect("the output of the lab program");
+        let bytes = fs::read(self.folder.join("output")).expect("the output of the lab program");
         String::from_utf8_lossy(&bytes).into_owned()
     }
 
-    /// Runs both sides and splits records and lines by openings.
-    fn compare<'a>(&self, input: &'a [u8]) -> Vec<Compared<'a>> {
-        let theirs = self.output(input);
+    /// Runs both sides, one beside the other, and splits records and lines by openings.
+    fn compare<'a>(&self, input: &'a [u8]) -> (Vec<Compared<'a>>, Tally) {
+        let child = self.start(input);
         let mut ours = vec![];
-        run(input, Options { figure: true }, &mut ours);
+        let tally = run(input, Options { figure: true }, &mut ours);
         let ours = String::from_utf8(ours).expect("lines");
+        let theirs = self.output(child);
 
         let (records, starts) = split(input);
         let mut sessions: Vec<Compared<'a>> = starts
@@ -343,11 +355,12 @@ impl Lab {
         for session in &mut sessions {
             session.outcome = outcome(&session.ours, &session.theirs);
         }
-        sessions
+        (sessions, tally)
     }
 
     fn differs(&self, input: &[u8]) -> bool {
-        self.compare(input)
+        let (sessions, _) = self.compare(input);
+        sessions
             .iter()
             .any(|session| matches!(session.outcome, Outcome::Different))
     }
@@ -434,7 +447,7 @@ fn explain(lab: &Lab, compared: &[Compared<'_>], smallest: Option<usize>, first:
     for (number, record) in records.iter().enumerate() {
         println!("  {number}: {}", show(record));
     }
-    for session in lab.compare(&input) {
+    for session in lab.compare(&input).0 {
         println!("the Rust:");
         print_lines(&session.ours);
         println!("the lab program:");
