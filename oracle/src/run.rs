@@ -169,8 +169,9 @@ impl Run<'_, '_> {
         }));
         self.print(number, "open 0");
 
-        let boot_stage = opening.boot_stage;
-        let media_dev_id = opening.media_dev_id;
+        let own_stage = if nor { 2 } else { 1 };
+        let boot_stage = (opening.boot_stage != own_stage).then_some(opening.boot_stage);
+        let media_dev_id = (opening.media_dev_id != 0).then_some(opening.media_dev_id);
         if nor {
             let inner = NorUpgStorage::new(Nor(chip.clone()), &mut buffer, lent, &partitions);
             let wrapped = Wrapped {

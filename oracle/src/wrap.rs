@@ -3,12 +3,13 @@
 use crate::aic_upg::storage::{NandUpgStorage, NorUpgStorage, StorageBackend};
 use crate::chip::{Nand, Nor, Shared};
 
-/// Forwards everything to `inner` but the two numbers of the opening.
+/// Forwards everything to `inner` but the two numbers of the opening, where it has others than the
+/// Rust.
 pub struct Wrapped<'a, S> {
     pub inner: S,
     pub chip: Shared,
-    pub boot_stage: u8,
-    pub media_dev_id: u32,
+    pub boot_stage: Option<u8>,
+    pub media_dev_id: Option<u32>,
     /// A NAND's page size, to tell the chip which page is held; 0 for NOR.
     pub page: u64,
     /// Answers the lookups in place of `inner`, which was then made without partitions.
@@ -65,6 +66,7 @@ impl<S: StorageBackend + Peek> StorageBackend for Wrapped<'_, S> {
 
     fn media_dev_id(&self) -> u32 {
         self.media_dev_id
+            .unwrap_or_else(|| self.inner.media_dev_id())
     }
 
     fn block_size(&self) -> u32 {
@@ -125,6 +127,6 @@ impl<S: StorageBackend + Peek> StorageBackend for Wrapped<'_, S> {
     }
 
     fn boot_stage(&self) -> u8 {
-        self.boot_stage
+        self.boot_stage.unwrap_or_else(|| self.inner.boot_stage())
     }
 }
