@@ -1,12 +1,18 @@
 //! Generated sessions are all answered, and the same each time. With the feature `peek` the held
 //! address is checked against the storage's private fields after every call.
 
+use std::sync::Mutex;
+
 use harness::make::{Plan, session};
 use harness::record::{Next, Reader};
 use harness::run::{Options, run};
 
+/// Two runs can't have scratch at the same address.
+static ONE: Mutex<()> = Mutex::new(());
+
 #[test]
 fn every_record_is_answered() {
+    let _one = ONE.lock();
     for name in ["storage", "engine", "packets", "storage:nor", "engine:nand"] {
         let plan = Plan::parse(name).unwrap();
         for number in 0..300 {
@@ -22,6 +28,25 @@ fn every_record_is_answered() {
                 answered(&input, &lines);
             }
         }
+    }
+}
+
+/// The kind exhaustive has as many sessions as docs/DIFFERENCES.md says, and the Rust answers all.
+#[test]
+fn the_short_ranges() {
+    let _one = ONE.lock();
+    let plan = Plan::parse("exhaustive").unwrap();
+    let devices = ["exhaustive:nor", "exhaustive:nand"].map(|name| Plan::parse(name).unwrap());
+    let [nor, nand] = devices.map(|plan| plan.count(1));
+    assert_eq!((nor, nand, plan.count(1)), (215_510, 184_910, 400_420));
+    assert_eq!(session(1, nor, plan), session(2, 0, devices[1]));
+    for number in (0..nor + nand).step_by(397) {
+        let input = session(1, number, plan);
+        let mut out = vec![];
+        let tally = run(&input, Options::default(), &mut out);
+        let part = plan.part(number).unwrap();
+        assert!(tally.skips.is_empty() && tally.panics.is_empty(), "{part}");
+        answered(&input, &String::from_utf8(out).unwrap());
     }
 }
 
