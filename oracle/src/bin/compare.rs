@@ -253,7 +253,7 @@ impl Counts {
             },
         );
         for (why, count) in &self.reasons {
-            println!("{name}: {count} panics of the Rust at {why}");
+            println!("{name}: the Rust panics at {why}: {count}");
         }
         println!("{name}: {} lines ({})", self.lines, list(&self.words));
         for (part, count) in &self.parts {
