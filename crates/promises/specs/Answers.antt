@@ -6,7 +6,7 @@ use mathlib.Core.List.{List, [], _∷_, _++_}
 use mathlib.Core.Logic.{_⊎_, inl, inr}
 use Prim.Native.Nat.{ℕ, _+_, _-_, _≤_, _<_}
 use native.Mathlib.Omega.{arith}
-use borrow.Author.Tests.{eqb-true, eqb-false, leb-true, leb-false, ltb-false}
+use borrow.Author.Tests.{eqb-true, eqb-false, leb-true, leb-false, ltb-true, ltb-false}
 use lib.Dec.{leb, ltb, eqb}
 use lib.ListN.{length, take, drop, length-take}
 use Rattle.text.specs.Utf8.{isUtf8}
@@ -71,7 +71,7 @@ module _ (g : Given) (c : ℕ) (bytes : List ℕ) (w : World) where
   whether-says false h = h refl
 
   -- where the window is not inside, and where it is
-  beyond : (addr len : ℕ) → inside (w .e .base) (length (w .scratch)) addr len ≡ false → Beyond w addr len
+  pub beyond : (addr len : ℕ) → inside (w .e .base) (length (w .scratch)) addr len ≡ false → Beyond w addr len
   unfolding inside
   beyond addr len e = go (and-false _ _ e)
     where
@@ -79,7 +79,7 @@ module _ (g : Given) (c : ℕ) (bytes : List ℕ) (w : World) where
       go (inl h) = inl (leb-false (w .e .base) addr h)
       go (inr h) = inr (leb-false (addr + len) (w .e .base + length (w .scratch)) h)
 
-  not-beyond : (addr len : ℕ) → inside (w .e .base) (length (w .scratch)) addr len ≡ true → Beyond w addr len → ⊥
+  pub not-beyond : (addr len : ℕ) → inside (w .e .base) (length (w .scratch)) addr len ≡ true → Beyond w addr len → ⊥
   unfolding inside
   not-beyond addr len e = go (leb-true (w .e .base) addr (h .0)) (leb-true (addr + len) (w .e .base + length (w .scratch)) (h .1))
     where
@@ -91,9 +91,9 @@ module _ (g : Given) (c : ℕ) (bytes : List ℕ) (w : World) where
       go p q (inr r) = omega arith
 
   -- the pair, or fewer than eight bytes
-  pair-says : (P : Pair → Type 0) → P (Both (wordAt 4 bytes 0) (wordAt 4 bytes 4)) → (length bytes < 8 → P Cut) → P (pairOf bytes)
+  pub pair-says : (P : Pair → Type 0) → (8 ≤ length bytes → P (Both (wordAt 4 bytes 0) (wordAt 4 bytes 4))) → (length bytes < 8 → P Cut) → P (pairOf bytes)
   unfolding pairOf
-  pair-says P h k = picked P (leb 8 (length bytes)) (Both (wordAt 4 bytes 0) (wordAt 4 bytes 4)) Cut (λ e. h) (λ e. k (leb-false 8 (length bytes) e))
+  pair-says P h k = picked P (leb 8 (length bytes)) (Both (wordAt 4 bytes 0) (wordAt 4 bytes 4)) Cut (λ e. h (leb-true 8 (length bytes) e)) (λ e. k (leb-false 8 (length bytes) e))
 
   -- more data than a reply takes
   sent-says : (xs : List ℕ) → (4096 < length xs → Large g c bytes w) → HasRow (sent xs)
@@ -102,7 +102,7 @@ module _ (g : Given) (c : ℕ) (bytes : List ℕ) (w : World) where
 
   write-says : c ≡ 0x02 → HasRow (writeOf (w .e .base) (w .scratch) bytes .answer)
   unfolding writeOf
-  write-says n = pair-says (λ p. HasRow (writeBy (w .e .base) (w .scratch) bytes p .answer)) both (write-cut n)
+  write-says n = pair-says (λ p. HasRow (writeBy (w .e .base) (w .scratch) bytes p .answer)) (λ i. both) (write-cut n)
     where
       a : ℕ
       a = wordAt 4 bytes 0
@@ -132,11 +132,11 @@ module _ (g : Given) (c : ℕ) (bytes : List ℕ) (w : World) where
       s : List ℕ
       s = take m (drop (a - w .e .base) (w .scratch))
 
-      both : HasRow (readBy (w .e .base) (w .scratch) (Both a m))
-      both =
+      both : 8 ≤ length bytes → HasRow (readBy (w .e .base) (w .scratch) (Both a m))
+      both i =
           picked HasRow (inside (w .e .base) (length (w .scratch)) a m) (cond (leb m 4112) (sent s) (ok [])) fail
           (λ e. picked HasRow (leb m 4112) (sent s) (ok [])
-          (λ h. sent-says s (λ k. let t = length-take m (drop (a - w .e .base) (w .scratch)) in read-large n (not-beyond a m e) (omega arith) (leb-true m 4112 h))) (λ h. tt))
+          (λ h. sent-says s (λ k. let t = length-take m (drop (a - w .e .base) (w .scratch)) in read-large n i (not-beyond a m e) (omega arith) (leb-true m 4112 h))) (λ h. tt))
           (λ e. read-beyond n (beyond a m e))
 
   -- ---- the commands over the storage
@@ -157,7 +157,7 @@ module _ (g : Given) (c : ℕ) (bytes : List ℕ) (w : World) where
 
   fwc-says : c ≡ 0x18 → HasRow (readFwc (g .lent) bytes w .answer)
   unfolding readFwc
-  fwc-says n = pair-says (λ p. HasRow (readFwcBy (g .lent) w p .answer)) tt (fwc-cut n)
+  fwc-says n = pair-says (λ p. HasRow (readFwcBy (g .lent) w p .answer)) (λ i. tt) (fwc-cut n)
 
   erase-says : c ≡ 0x1B → HasRow (eraseStorage (g .lent) bytes w .answer)
   unfolding eraseStorage
@@ -195,23 +195,28 @@ module _ (g : Given) (c : ℕ) (bytes : List ℕ) (w : World) where
 
   -- ---- the shell
 
-  window-says : (addr len : ℕ) (P : Window → Type 0) → P (window.At (addr - w .e .base) (cutTo w addr len)) → (Off w addr → P window.Out)
+  -- the window, or an address off scratch
+  pub window-says : (addr len : ℕ) (P : Window → Type 0) → ((Off w addr → ⊥) → P (window.At (addr - w .e .base) (cutTo w addr len))) → (Off w addr → P window.Out)
       → P (windowOf (w .e .base) (length (w .scratch)) addr len)
   unfolding windowOf
-  window-says addr len P h k = picked P (leb (w .e .base) addr && ltb addr (w .e .base + length (w .scratch))) _ window.Out (λ e. h) (λ e. k (off (and-false _ _ e)))
+  window-says addr len P h k = picked P (leb (w .e .base) addr && ltb addr (w .e .base + length (w .scratch))) _ window.Out (λ e. h (on (and-both _ _ e))) (λ e. k (off (and-false _ _ e)))
     where
+      on : (leb (w .e .base) addr ≡ true) × (ltb addr (w .e .base + length (w .scratch)) ≡ true) → Off w addr → ⊥
+      on y (inl x) = let k = leb-true (w .e .base) addr (y .0) in omega arith
+      on y (inr x) = let k = ltb-true addr (w .e .base + length (w .scratch)) (y .1) in omega arith
+
       off : (leb (w .e .base) addr ≡ false) ⊎ (ltb addr (w .e .base + length (w .scratch)) ≡ false) → Off w addr
       off (inl x) = inl (leb-false (w .e .base) addr x)
       off (inr x) = inr (ltb-false addr (w .e .base + length (w .scratch)) x)
 
   -- the line runs in a world that differs in a flag alone
-  abbrev asks : World
+  abbrev pub asks : World
   asks = at-e (with-flags (w .e .upgrading) (w .e .asked || isReset (lineIn bytes)) (w .e)) w
 
   module _ (n : c ≡ 0x05) where
     out-says : (off len addr : ℕ) → lineOf (lineIn bytes) ≡ line.Write off len addr → HasRow (runWrite (g .lent) off (windowOf (w .e .base) (length (w .scratch)) addr len) asks .answer)
     unfolding runWrite
-    out-says off len addr e = window-says addr len (λ x. HasRow (runWrite (g .lent) off x asks .answer)) at (λ h. why (out-window h))
+    out-says off len addr e = window-says addr len (λ x. HasRow (runWrite (g .lent) off x asks .answer)) (λ i. at) (λ h. why (out-window h))
       where
         why : OutWhy (g .lent) w off len addr → Why g c bytes w
         why h = shell-run n (subst (RunWhy (g .lent) w) (sym e) h)
@@ -234,11 +239,11 @@ module _ (g : Given) (c : ℕ) (bytes : List ℕ) (w : World) where
         let why : InWhy (g .lent) w off len addr → Why g c bytes w = λ h. shell-run n (subst (RunWhy (g .lent) w) (sym e) h) in
         let t = inTold (g .lent) w off len addr in
         window-says addr len (λ x. HasRow (runRead (g .lent) off x asks .answer))
-        (whether-says (eqb (t .count) (cutTo w addr len)) (λ x. why (in-short (eqb-false (t .count) (cutTo w addr len) x)))) (λ h. why (in-window h))
+        (λ i. whether-says (eqb (t .count) (cutTo w addr len)) (λ x. why (in-short (eqb-false (t .count) (cutTo w addr len) x)))) (λ h. why (in-window h))
 
     boot-says : (addr len : ℕ) → lineOf (lineIn bytes) ≡ line.Boot addr len → HasRow (runBoot (windowOf (w .e .base) (length (w .scratch)) addr len) asks .answer)
     unfolding runBoot
-    boot-says addr len e = window-says addr len (λ x. HasRow (runBoot x asks .answer)) tt (λ h. shell-run n (subst (RunWhy (g .lent) w) (sym e) h))
+    boot-says addr len e = window-says addr len (λ x. HasRow (runBoot x asks .answer)) (λ i. tt) (λ h. shell-run n (subst (RunWhy (g .lent) w) (sym e) h))
 
     run-says : (x : Line) → lineOf (lineIn bytes) ≡ x → Lined (LineWhy (tokensOf (lineIn bytes))) x → HasRow (runBy (g .lent) asks x .answer)
     unfolding runErase

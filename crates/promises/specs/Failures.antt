@@ -62,14 +62,19 @@ module _ (g : Given) (v : World) (f : fits g v ≡ true) (b : Between (v .e)) (h
       ∙ ap (λ (x : World). feeds g x (h ++ m)) (sym (between-is v (λ i. record { len = b .len i; total = b .total i })))
       ∙ frame-done g v (b .left) h m n (omega (arith, in-bounds g v f .fit .mid .request)) c s p o t
 
-  -- 1d, "executed command fails": the write returns 1, and a fail reply waits
-  pub fail-told : runs g c m found .answer ≡ fail → (writes g v (h ++ m) .status ≡ 1) × (waiting (writes g v (h ++ m) .w) ≡ replyBy c fail)
-  unfolding ends statusBy
-  fail-told e =
+  -- what a command answers is told: the write returns its status, and its reply waits
+  pub answer-told : (a : Answer) → length (replyBy c a) ≤ 4112 → runs g c m found .answer ≡ a → (writes g v (h ++ m) .status ≡ statusBy a) × (waiting (writes g v (h ++ m) .w) ≡ replyBy c a)
+  unfolding ends
+  answer-told a i e =
       let r = runs g c m found in
       let y : length (r .w .reply) ≡ 4112 = ap length (runs-tidy g c m found .keeps .reply) ∙ in-bounds g v f .fit .mid .reply in
-      let q = whole ∙ ap (λ (a : Answer). ends c a (r .w)) e in
-      (ap (λ (x : Out). x .status) q, ap (λ (x : Out). waiting (x .w)) q ∙ laid-waits c fail (r .w) (omega (arith, fail-length c)))
+      let q = whole ∙ ap (λ (x : Answer). ends c x (r .w)) e in
+      (ap (λ (x : Out). x .status) q, ap (λ (x : Out). waiting (x .w)) q ∙ laid-waits c a (r .w) (omega arith))
+
+  -- 1d, "executed command fails": the write returns 1, and a fail reply waits
+  pub fail-told : runs g c m found .answer ≡ fail → (writes g v (h ++ m) .status ≡ 1) × (waiting (writes g v (h ++ m) .w) ≡ replyBy c fail)
+  unfolding statusBy
+  fail-told = answer-told fail (omega (arith, fail-length c))
 
 -- ---- SEND_FWC_DATA's header
 

@@ -26,3 +26,5 @@ pub mod Causes
 pub mod Refusals
 pub mod Kept
 pub mod Failures
+pub mod Failing
+pub mod Gives

@@ -1,8 +1,8 @@
 -- Only named reasons, of the commands (01, 'What the contracts have to settle': "a refusal or fail reply still needs a reason that
 -- these papers name"). `Why` lists by command what 01 names for a fail reply, `Large` for the odd one (1e), `known` the commands that
 -- 01 has. Each row is a test of the payload, of the engine's numbers or of what a storage call told, and never the answer itself.
--- That every answer has its row is in Answers.antt, what follows for turns and writes in Reasons.antt and for replies in Replies.antt;
--- what a storage call told is traced to the chip in Causes.antt.
+-- That every answer has its row is in Answers.antt, that every row gives its answer in Gives.antt; what follows for turns and writes is in
+-- Reasons.antt and for replies in Replies.antt; what a storage call told is traced to the chip in Causes.antt.
 use mathlib.Core.Path.{_≡_}
 use mathlib.Core.Bool.{true, false}
 use mathlib.Core.List.{List, [], _∷_, _++_}
@@ -152,7 +152,7 @@ pub data Why (g : Given) (c : ℕ) (bytes : List ℕ) (w : World) : Type 0 where
 
 -- the odd reply's reason (1e): "reply data 4,097 to 4,112 bytes, or a table text over 4,096"
 pub data Large (g : Given) (c : ℕ) (bytes : List ℕ) (w : World) : Type 0 where
-  read-large : c ≡ 0x03 → (Beyond w (wordAt 4 bytes 0) (wordAt 4 bytes 4) → ⊥) → 4096 < wordAt 4 bytes 4 → wordAt 4 bytes 4 ≤ 4112 → Large g c bytes w
+  read-large : c ≡ 0x03 → 8 ≤ length bytes → (Beyond w (wordAt 4 bytes 0) (wordAt 4 bytes 4) → ⊥) → 4096 < wordAt 4 bytes 4 → wordAt 4 bytes 4 ≤ 4112 → Large g c bytes w
   table-large : c ≡ 0x17 → 4096 < length (g .table) → Large g c bytes w
 
 -- the commands that a frame may bring, by what they touch: scratch, scratch and storage, storage, and the reply alone with a word, with
