@@ -1,0 +1,3 @@
+-- The definitions that the contracts cite, and the law of the record's bytes.
+pub mod State
+pub mod StateLaws
