@@ -1,2 +1,3 @@
 -- The laws of the definitions.
 pub mod States
+pub mod Exports
