@@ -2,3 +2,4 @@
 pub mod State
 pub mod StateLaws
 pub mod Calls
+pub mod CallLaws

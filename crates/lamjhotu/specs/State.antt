@@ -20,8 +20,8 @@ abbrev pub flagOf : Bool → ℕ
 flagOf b = cond b 1 0
 
 abbrev pub kindMark : Kind → ℕ
-kindMark Nor = 0
-kindMark Nand = 1
+kindMark Nor = 1
+kindMark Nand = 0
 
 abbrev pub erasedMark : Erased → ℕ
 erasedMark None = 0
@@ -68,8 +68,8 @@ abbrev pub setOf : ℕ → Bool
 setOf b = not (eqb b 0)
 
 abbrev pub kindOf : Bool → Kind
-kindOf true = Nand
-kindOf false = Nor
+kindOf true = Nor
+kindOf false = Nand
 
 abbrev pub erasedOf : Bool → ℕ → Erased
 erasedOf true n = Block n

@@ -1,12 +1,12 @@
 -- A record that was packed is unpacked again, whatever lies behind its 680 bytes.
-use mathlib.Core.Path.{_≡_, refl, sym, ap, _∙_}
+use mathlib.Core.Path.{_≡_, refl, sym, ap, ap₂, _∙_}
 use mathlib.Core.Bool.{Bool, true, false}
 use mathlib.Core.List.{List, [], _∷_, _++_}
-use Prim.Native.Nat.{ℕ, _+_, _%_, _^_, _<_, _≤_}
+use Prim.Native.Nat.{ℕ, zero, suc, _+_, _%_, _^_, _<_, _≤_}
 use native.Mathlib.Nat.{mod-eq-of-lt}
 use native.Mathlib.Omega.{arith}
-use lib.ListN.{length, take, drop}
-use lib.Seq.{take-at}
+use lib.ListN.{length, getD, take, drop}
+use lib.Seq.{take-at, take-take, getD-take}
 use Rattle.wire.specs.Bytes.{bytesOf, le, wordAt, laid}
 use Rattle.wire.proofs.Copies.{laid-fits}
 use Rattle.wire.proofs.Words.{le-bytesOf}
@@ -124,6 +124,51 @@ module _ (e : Engine) (rest : List ℕ) (r : Ranged e) where
   pub length-pack : length (packOf e) ≡ 680
   unfolding packOf wordsOf marksOf fourOf bytesOf
   length-pack = omega (arith, r .meta)
+
+-- what lies behind the 680 bytes does not matter
+within : (m n at : ℕ) (s : List ℕ) → at + n ≤ m → take n (drop at (take m s)) ≡ take n (drop at s)
+within m n zero s h = take-take n m s (omega arith)
+within zero n (suc at) s h = absurd (omega arith)
+within (suc m) n (suc at) [] h = refl
+within (suc m) n (suc at) (x ∷ s) h = within m n at s (omega arith)
+
+part : (n at : ℕ) (s : List ℕ) → at + n ≤ 680 → take n (drop at (take 680 s)) ≡ take n (drop at s)
+part n at s h = within 680 n at s h
+
+word-part : (n at : ℕ) (s : List ℕ) → at + n ≤ 680 → wordAt n (take 680 s) at ≡ wordAt n s at
+unfolding wordAt
+word-part n at s h = ap le (part n at s h)
+
+byte-part : (at : ℕ) (s : List ℕ) → at < 680 → getD (take 680 s) at 0 ≡ getD s at 0
+byte-part at s h = getD-take 680 s at 0 h
+
+set-part : (at : ℕ) (s : List ℕ) → at < 680 → setOf (getD (take 680 s) at 0) ≡ setOf (getD s at 0)
+set-part at s h = ap setOf (byte-part at s h)
+
+module _ (s : List ℕ) where
+  shape-part : shapeAt (take 680 s) ≡ shapeAt s
+  unfolding shapeAt
+  shape-part =
+      shape-is (shapeAt s) (ap kindOf (set-part 165 s (omega arith))) (word-part 8 96 s (omega arith)) (word-part 8 104 s (omega arith)) (word-part 8 112 s (omega arith))
+      (word-part 8 120 s (omega arith)) (byte-part 152 s (omega arith)) (word-part 4 88 s (omega arith))
+
+  store-part : storeAt (take 680 s) ≡ storeAt s
+  unfolding storeAt
+  store-part =
+      store-is (storeAt s) shape-part (set-part 164 s (omega arith)) (word-part 8 128 s (omega arith))
+      (ap₂ erasedOf (set-part 166 s (omega arith)) (word-part 8 136 s (omega arith))) (word-part 8 144 s (omega arith))
+
+  update-part : updateAt (take 680 s) ≡ updateAt s
+  unfolding updateAt metaAt
+  update-part =
+      update-is (updateAt s) (part 512 168 s (omega arith)) (set-part 160 s (omega arith)) (set-part 161 s (omega arith)) (word-part 8 32 s (omega arith))
+      (word-part 8 40 s (omega arith)) (word-part 4 56 s (omega arith)) (word-part 4 64 s (omega arith)) (word-part 4 72 s (omega arith)) (word-part 8 48 s (omega arith))
+
+  pub unpack-part : unpackOf (take 680 s) ≡ unpackOf s
+  unfolding unpackOf
+  unpack-part =
+      engine-is (unpackOf s) (word-part 8 0 s (omega arith)) (word-part 8 8 s (omega arith)) (word-part 8 16 s (omega arith)) (word-part 8 24 s (omega arith)) update-part
+      (set-part 162 s (omega arith)) (set-part 163 s (omega arith)) (word-part 4 80 s (omega arith)) store-part
 
 -- what a call leaves in a state is what the next one finds there
 pub unpack-laid : (e : Engine) (s : List ℕ) → Ranged e → 680 ≤ length s → unpackOf (laid s 0 (packOf e)) ≡ e

@@ -26,12 +26,13 @@ pub(crate) fn flag(b: bool) -> u8
     if b { 1 } else { 0 }
 }
 
+// Zeros spell a NAND without pages, which every write and read refuses.
 fn kind_mark(k: Kind) -> u8
     ensures { λ r. ⌜ r ≡ kindMark k ⌝ }
 {
     match k {
-        Kind::Nor => 0,
-        Kind::Nand => 1,
+        Kind::Nor => 1,
+        Kind::Nand => 0,
     }
 }
 
@@ -144,10 +145,10 @@ fn set_at(s: &[u8], at: usize) -> bool
     s[at] != 0
 }
 
-fn kind_of(nand: bool) -> Kind
-    ensures { λ r. ⌜ r ≡ kindOf nand ⌝ }
+fn kind_of(nor: bool) -> Kind
+    ensures { λ r. ⌜ r ≡ kindOf nor ⌝ }
 {
-    if nand { Kind::Nand } else { Kind::Nor }
+    if nor { Kind::Nor } else { Kind::Nand }
 }
 
 fn erased_of(erased: bool, block: u64) -> Erased
@@ -219,9 +220,7 @@ fn update_at(s: &[u8]) -> Update
     }
 }
 
-// The record that bytes hold. Bytes that nobody packed give a record too, which the engine refuses
-// where it is out of bounds.
-pub fn unpack(s: &[u8]) -> Engine
+fn engine_at(s: &[u8]) -> Engine
     requires { ⌜ 680 ≤ length (now s) ⌝ }
     ensures { λ r. ⌜ r ≡ unpackOf (now (s .entry)) ⌝ }
 {
@@ -244,4 +243,13 @@ pub fn unpack(s: &[u8]) -> Engine
         base: u32_at(s, 80),
         store,
     }
+}
+
+// The record at the front of a slice. Bytes that nobody packed give a record too, which the engine
+// refuses where it is out of bounds. The part of a known length spares a test for each byte.
+pub fn unpack(s: &[u8]) -> Engine
+    requires { ⌜ 680 ≤ length (now s) ⌝ }
+    ensures { λ r. ⌜ r ≡ unpackOf (now (s .entry)) ⌝ }
+{
+    engine_at(&s[0..680])
 }

@@ -1,51 +1,26 @@
--- Field by field.
-use Rattle.lamjhotu.specs.State.{unpackOf}
+-- What lies behind the 680 bytes does not matter.
+use mathlib.Core.Path.{_∙_}
+use Rattle.lamjhotu.specs.StateLaws.{unpack-part}
 use borrow.Author.Needs.{needs}
 use Rattle.lamjhotu.proofs.state.unpack.Statement.{statement}
 use Rattle.lamjhotu.proofs.state.unpack.Tie as tie
 
-u64-at-requires : tie.Need-u64-at-requires
-u64-at-requires c κs = search needs
+sub-engine-at : tie.Need-sub-engine-at
+sub-engine-at c = search needs
 
-u64-at-requires-2 : tie.Need-u64-at-requires-2
-u64-at-requires-2 c κs = search needs
+part-engine-at-start : tie.Need-part-engine-at-start
+part-engine-at-start c = search needs
 
-u64-at-requires-3 : tie.Need-u64-at-requires-3
-u64-at-requires-3 c κs = search needs
+part-engine-at-end : tie.Need-part-engine-at-end
+part-engine-at-end c = search needs
 
-u64-at-requires-4 : tie.Need-u64-at-requires-4
-u64-at-requires-4 c κs = search needs
-
-update-at-requires : tie.Need-update-at-requires
-update-at-requires c κs = search needs
-
-store-at-requires : tie.Need-store-at-requires
-store-at-requires c κs = search needs
-
-set-at-requires : tie.Need-set-at-requires
-set-at-requires c κs = search needs
-
-set-at-requires-2 : tie.Need-set-at-requires-2
-set-at-requires-2 c κs = search needs
-
-u32-at-requires : tie.Need-u32-at-requires
-u32-at-requires c κs = search needs
+engine-at-requires : tie.Need-engine-at-requires
+engine-at-requires c κs = search needs
 
 returns : tie.Need-returns
-unfolding unpackOf
-returns c = rw (c .before .before .before .before .before .before .before .before .u64-at .ensures, c .before .before .before .before .before .before .before .u64-at2 .ensures, c .before .before .before .before .before .before .u64-at3 .ensures, c .before .before .before .before .before .u64-at4 .ensures, c .before .before .before .before .update-at .ensures, c .before .before .set-at .ensures, c .before .set-at2 .ensures, c .u32-at .ensures, c .before .before .before .store-at .ensures)
+returns c = c .engine-at .ensures ∙ unpack-part _
 
 pub unpack-spec : {M : Type 1} → statement M
 unpack-spec =
     tie.close
-    (tie.spec
-    u64-at-requires
-    u64-at-requires-2
-    u64-at-requires-3
-    u64-at-requires-4
-    update-at-requires
-    store-at-requires
-    set-at-requires
-    set-at-requires-2
-    u32-at-requires
-    returns)
+    (tie.spec sub-engine-at part-engine-at-start part-engine-at-end engine-at-requires returns)
