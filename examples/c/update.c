@@ -116,7 +116,8 @@ static void announce(void)
     must(get(room, sizeof room) == 0, "no reply yet");
     must(put(frame + 100, 428) == LAMJHOTU_DONE, "the rest of the metadata");
     must(get(room, sizeof room) == 16 && room[7] == 0, "the metadata's reply");
-    printf("metadata     sent in 2 pieces, reply OK, upgrading %u\n", lamjhotu_host_upgrading(record, sizeof record));
+    must(lamjhotu_host_upgrading(record, sizeof record) == 1, "an upgrade has started");
+    printf("metadata     sent in 2 pieces, reply OK, an upgrade has started\n");
 }
 
 static void update(const uint8_t *payload)
@@ -183,6 +184,7 @@ int main(int argc, char **argv)
                            base, none, 0, 0, 0) == LAMJHOTU_REFUSED, "a record of 10 bytes is refused");
     must(get(none, 1) == LAMJHOTU_NO_COUNT, "a record that nobody opened is refused");
     must(open_flash() == LAMJHOTU_DONE, "opened");
+    must(lamjhotu_host_upgrading(record, sizeof record) == 0, "no upgrade yet");
     printf("opened       NOR of %d bytes, app at %d\n", FLASH, APP);
     announce();
     update(payload);
@@ -200,8 +202,10 @@ int main(int argc, char **argv)
     printf("flash        holds the payload at %d, every other byte is FF\n", APP);
 
     must(lamjhotu_reset(record, sizeof record) == LAMJHOTU_DONE, "reset");
-    printf("reset        done, upgrading %u, asked for a reset %u\n", lamjhotu_host_upgrading(record, sizeof record),
-           lamjhotu_reset_requested(record, sizeof record));
+    must(lamjhotu_host_upgrading(record, sizeof record) == 1, "a reset keeps the flag");
+    must(lamjhotu_reset_requested(record, sizeof record) == 0, "nobody asked for a reset of the device");
+    must(lamjhotu_reset(record, 679) == LAMJHOTU_REFUSED, "a record of 679 bytes is refused");
+    printf("reset        done, the flags stay\n");
     if (argc == 2 && strcmp(argv[1], "time") == 0)
         measure(payload);
     return 0;

@@ -125,7 +125,7 @@ fn words(s: &mut [u8], e: Engine)
 }
 
 // The record as bytes at the front of a slice; what lies behind them stays.
-pub fn pack(s: &mut [u8], e: Engine)
+pub(crate) fn pack(s: &mut [u8], e: Engine)
     requires { ⌜ 680 ≤ length (now s) ⌝ }
     ensures { λ _. ⌜ now (s .exit) ≡ laid (now (s .entry)) 0 (packOf e) ⌝ }
 {
@@ -247,7 +247,7 @@ fn engine_at(s: &[u8]) -> Engine
 
 // The record at the front of a slice. Bytes that nobody packed give a record too, which the engine
 // refuses where it is out of bounds. The part of a known length spares a test for each byte.
-pub fn unpack(s: &[u8]) -> Engine
+pub(crate) fn unpack(s: &[u8]) -> Engine
     requires { ⌜ 680 ≤ length (now s) ⌝ }
     ensures { λ r. ⌜ r ≡ unpackOf (now (s .entry)) ⌝ }
 {
