@@ -51,6 +51,12 @@
 extern "C" {
 #endif
 
+/*
+ * The CRC-32 (ITU-T V.42) of bytes behind others that have the checksum `crc`; 0 where there are none. What
+ * the engine answers to a CRC query is this of the payload.
+ */
+uint32_t lamjhotu_crc32(uint32_t crc, const uint8_t *bytes, size_t bytes_len);
+
 /* How many bytes a record has: LAMJHOTU_RECORD_LEN, for a program that was built with another header. */
 size_t lamjhotu_record_len(void);
 

@@ -14,10 +14,12 @@ use engine::api::open_nor;
 use engine::api::read;
 use engine::api::write;
 use engine::types::Engine;
+use wire::crc::crc32_update;
 ghost use mathlib.Core.List.{List};
 ghost use mathlib.Core.Path.{_≡_};
 ghost use Prim.Native.Nat.{ℕ, _≤_};
 ghost use lib.ListN.{length};
+ghost use Rattle.wire.specs.Crc.{crcUpdate};
 ghost use Rattle.storage.specs.World.{lent};
 ghost use Rattle.storage.specs.Partition.{lists};
 ghost use Rattle.engine.specs.World.{given, world};
@@ -30,6 +32,15 @@ pub extern "C" fn lamjhotu_record_len() -> usize
     ensures { λ r. ⌜ r ≡ 680 ⌝ }
 {
     680
+}
+
+// The CRC-32 of what has the checksum `crc` and of more bytes; 0 for none before them. A host checks an
+// update's checksum with it.
+#[no_mangle]
+pub extern "C" fn lamjhotu_crc32(crc: u32, bytes: &[u8]) -> u32
+    ensures { λ r. ⌜ r ≡ crcUpdate crc (now (bytes .entry)) ⌝ }
+{
+    crc32_update(crc, bytes)
 }
 
 // ---- openings
