@@ -84,7 +84,7 @@ abbrev pub Returns : {K : Type 0} {A R S : K → Type 0} → ((k : K) → A k �
 Returns Says = Fixes Says (λ k r r′ s s′. r ≡ r′)
 
 -- the arguments at exit behind the first eight
-abbrev past8 : {A B C D E F G H X : Type 0} → A × (B × (C × (D × (E × (F × (G × (H × X))))))) → X
+abbrev pub past8 : {A B C D E F G H X : Type 0} → A × (B × (C × (D × (E × (F × (G × (H × X))))))) → X
 past8 s = s .1 .1 .1 .1 .1 .1 .1 .1
 
 -- ---- wire: bytes, crc, header, packet

@@ -4,6 +4,7 @@ pub mod Fixed
 pub mod FixedStorage
 pub mod FixedEngine
 pub mod Contracts
+pub mod Exported
 pub mod Front
 pub mod Frames
 pub mod Aside
