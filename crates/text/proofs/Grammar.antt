@@ -6,6 +6,7 @@ use mathlib.Core.List.{List, [], _∷_, _++_}
 use Prim.Native.Nat.{ℕ, zero, suc, _+_, _≤_, _<_, zero-le, suc-le-suc}
 use native.Mathlib.Nat.{not-suc-le-zero, le-of-suc-le-suc}
 use native.Mathlib.Omega.{arith}
+use borrow.Author.Tests.{le-leb}
 use lib.ListN.{length, getD, drop, length-drop, drop-of-length-le}
 use lib.Seq.{drop-cons, drop-drop}
 use Rattle.text.specs.Utf8.{Range, _–_, within, begins, anyOf, utf8-1, utf8-2, utf8-3, utf8-4, utf8-char, firstOf, charLen, octets}
@@ -117,6 +118,11 @@ pub charLen-four : (s : List ℕ) → charLen s ≤ 4
 unfolding charLen utf8-char
 charLen-four s = rules-few 0 utf8-char s
 
+-- an octet under 128 is a character by itself
+ascii : (b : ℕ) (s : List ℕ) → b < 128 → charLen (b ∷ s) ≡ 1
+unfolding charLen utf8-char utf8-1 firstOf anyOf begins
+ascii b s h = rw (le-leb 0 b zero-le, le-leb b 0x7F (omega arith))
+
 -- ---- runs of characters
 
 -- octets that are passed
@@ -151,3 +157,6 @@ module _ (s : List ℕ) (i : ℕ) where
 
   pub fits-in : (n : ℕ) → i ≤ length s → n ≡ charLen (drop i s) → i + n ≤ length s
   fits-in n h e = omega (arith, charLen-le (drop i s), length-drop i s, e)
+
+  pub one : i < length s → getD s i 0 < 128 → 1 ≡ charLen (drop i s)
+  one h k = sym (ap charLen (drop-cons s i 0 h) ∙ ascii (getD s i 0) _ k)

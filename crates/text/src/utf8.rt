@@ -107,12 +107,17 @@ pub(crate) fn char_len(s: &[u8], at: usize) -> usize
     0
 }
 
-// Whether the bytes are UTF-8: characters one after another, and nothing else. UTF8-octets.
+// Whether the bytes are UTF-8: characters one after another, and nothing else. UTF8-octets. An octet
+// under 128 is a character by itself: it is passed at once.
 pub fn is_utf8(s: &[u8]) -> bool
     ensures { λ r. ⌜ r ≡ isUtf8 (now (s .entry)) ⌝ }
 {
     let mut i = 0;
     while i < s.len() {
+        if s[i] < 128 {
+            i += 1;
+            continue;
+        }
         let n = char_len(s, i);
         if n == 0 {
             return false;
