@@ -127,6 +127,10 @@ unfoldable pub partsFit : Store → ℕ → ℕ → ℕ → Bool
 partsFit s chip marks buffer =
     leb 4096 buffer && byKind (s .shape .kind) (norSize chip) (chipOk (s .shape .page) (s .shape .pages) (s .shape .blocks) chip marks)
 
+-- both of a NOR, from its capacity, what it holds, and the lengths of chip and buffer
+unfoldable pub norFits : ℕ → Bool → ℕ → ℕ → ℕ → Bool
+norFits capacity held at chip buffer = (leb capacity (2 ^ 31) && heldOk held at 4096 capacity) && (leb 4096 buffer && norSize chip)
+
 -- ---- questions
 
 abbrev pub isNand : Store → Bool

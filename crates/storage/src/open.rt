@@ -13,7 +13,7 @@ ghost use mathlib.Core.Path.{_≡_};
 ghost use Prim.Native.Nat.{_*_, _/_, _<_};
 ghost use lib.ListN.{length};
 ghost use Rattle.storage.specs.Partition.{lists};
-ghost use Rattle.storage.specs.Open.{shiftOf, pageOk, pagesOk, geometryOk, norSize, scratchOk, chipOk, numbersOk, norStore, nandStore, openedNor, openedNand, heldOk, inBounds, partsFit, isNand, blockSizeOf};
+ghost use Rattle.storage.specs.Open.{shiftOf, pageOk, pagesOk, geometryOk, norSize, scratchOk, chipOk, numbersOk, norStore, nandStore, openedNor, openedNand, heldOk, inBounds, partsFit, norFits, isNand, blockSizeOf};
 
 // A store that was opened, or the number of the refusal.
 pub enum Opened {
@@ -298,6 +298,22 @@ pub fn fits(s: Store, chip: usize, marks: usize, buffer: usize) -> bool
         return false;
     }
     parts_fit(s, chip, marks, buffer)
+}
+
+// The same of a NOR, by the numbers of its record.
+pub fn nor_fits(capacity: u64, held: bool, at: u64, chip: usize, buffer: usize) -> bool
+    ensures { λ r. ⌜ r ≡ norFits capacity held at chip buffer ⌝ }
+{
+    if 2147483648 < capacity {
+        return false;
+    }
+    if !held_ok(held, at, 4096, capacity) {
+        return false;
+    }
+    if buffer < 4096 {
+        return false;
+    }
+    nor_size(chip)
 }
 
 // ---- questions
