@@ -1,6 +1,6 @@
 -- What is not refused with 9 is in bounds; and a read, as the code goes.
 use mathlib.Core.Path.{_≡_, refl, sym, ap, _∙_}
-use mathlib.Core.Bool.{Bool, true, false, _&&_, cond}
+use mathlib.Core.Bool.{Bool, true, false, _&&_, cond, and-assoc}
 use mathlib.Core.List.{List}
 use Prim.Native.Nat.{ℕ, _+_, _-_, _^_, _≤_, _<_, min}
 use native.Mathlib.Omega.{arith}
@@ -10,7 +10,8 @@ use lib.ListN.{length, take, drop, length-take}
 use Rattle.wire.specs.Bytes.{laid}
 use Rattle.storage.specs.declared.types.Store.{Store}
 use Rattle.storage.specs.World.{Lent, Dev}
-use Rattle.storage.specs.Open.{inBounds, partsFit}
+use Rattle.storage.specs.Open.{inBounds, partsFit, scratchOk}
+use Rattle.storage.specs.Partition.{listsOk}
 use Rattle.storage.specs.Store.{good}
 use Rattle.engine.specs.declared.types.Engine.{Engine}
 use Rattle.engine.specs.declared.types.Frame.{Frame}
@@ -20,7 +21,7 @@ use Rattle.engine.specs.declared.api.Got.the-variants as got
 use Rattle.engine.specs.World.{Given, World, with-said, devOf}
 use Rattle.engine.specs.Stream.{UpFit}
 use Rattle.engine.specs.Feed.{SaidFit, FrameFit, Mid, Fit}
-use Rattle.engine.specs.Api.{roomsOk, frameOk, saidOk, upOk, engineOk, fits, noStore, Read, reads}
+use Rattle.engine.specs.Api.{roomsOk, frameOk, saidOk, boundsOk, upOk, engineOk, fits, noStore, Read, reads}
 
 -- ---- tests
 
@@ -76,6 +77,27 @@ world-fit g w e =
       mid = record { request = r .0; reply = r .1; said = said-fit (w .e .said) (d .0); up = up-fit (w .e .up) (d .1) };
       frame = frame-fit (w .e .frame) (c .0);
     }
+
+-- the rooms and the record's numbers, and then the parts
+module _ (g : Given) (w : World) {t : Bool}
+    (p : t ≡ (roomsOk (length (w .request)) (length (w .reply)) && (frameOk (w .e .frame) && (saidOk (w .e .said) && boundsOk (w .e .up .target) (w .e .up .written) (w .e .up .left))))) where
+  abbrev parts : Bool
+  parts = good (g .lent) (devOf w) && (listsOk (g .lists) && scratchOk (w .e .base) (length (w .scratch)))
+
+  fits-by : fits g w ≡ (t && parts)
+  unfolding fits engineOk upOk
+  fits-by =
+      sym (and-assoc (roomsOk (length (w .request)) (length (w .reply))) (engineOk (w .e)) parts)
+      ∙ ap (λ (b : Bool). b && parts) (sym p)
+
+  pub fits-out : t ≡ false → false ≡ fits g w
+  fits-out e = sym (fits-by ∙ ap (λ (b : Bool). b && parts) e)
+
+  pub fits-parts : t ≡ true → {r : Bool}
+      → r ≡ ((inBounds (w .e .store) && partsFit (w .e .store) (length (w .chip)) (length (g .lent .marks)) (length (w .buffer))) && (listsOk (g .lists) && scratchOk (w .e .base) (length (w .scratch))))
+      → r ≡ fits g w
+  unfolding good
+  fits-parts e h = h ∙ sym (fits-by ∙ ap (λ (b : Bool). b && parts) e)
 
 -- ---- read
 

@@ -9,11 +9,15 @@ use lib.Dec.{leb}
 use lib.ListN.{length, take, drop, length-drop}
 use lib.Seq.{length-take-le}
 use Rattle.wire.specs.Bytes.{bytesOf, wordAt, laid}
+use Rattle.storage.specs.declared.types.Store.{Store}
+use Rattle.engine.specs.declared.types.Engine.{Engine}
 use Rattle.engine.specs.declared.types.Ended.the-variants.{Ok, Fail}
+use Rattle.engine.specs.declared.command.Short.{Short}
+use Rattle.engine.specs.declared.command.Short.the-variants as short
 use Rattle.engine.specs.declared.command.Pair.{Pair}
 use Rattle.engine.specs.declared.command.Pair.the-variants.{Cut, Both}
-use Rattle.engine.specs.Reply.{ok, fail, odd, sent, place, placing}
-use Rattle.engine.specs.Command.{hwinfo, media, geometry, tableText, pairOf, inside, readBy, readOf, wroteAs, wroteBy, writeBy, writeOf}
+use Rattle.engine.specs.Reply.{ok, fail, odd, sent, place, Placed, placing}
+use Rattle.engine.specs.Command.{hwinfo, media, geometry, tableText, shortOf, longOf, plainBy, plain, asking, pairOf, inside, readBy, readOf, wroteAs, wroteBy, writeBy, writeOf}
 
 -- ---- the lengths of what is laid
 
@@ -63,6 +67,24 @@ pub table-long : (t : List ℕ) → 4096 < length t → tableText t ≡ odd
 unfolding tableText
 table-long [] h = absurd (omega arith)
 table-long (x ∷ t) h = sent-long (x ∷ t) h
+
+-- ---- what the plain commands look at
+
+-- the long ones see the store alone
+pub plain-long : (c base burn run : ℕ) (s : Store) (t reply : List ℕ) {x : Short} {p : Placed} → x ≡ shortOf c (asking base burn run s) → x ≡ short.Other
+    → p ≡ placing (longOf c (asking 0 0 0 s) t) reply → p ≡ placing (plain c (asking base burn run s) t) reply
+unfolding plain longOf
+plain-long c base burn run s t reply q r h = h ∙ ap (λ (x : Short). placing (plainBy c (asking base burn run s) t x) reply) (sym r ∙ q)
+
+-- and all of them four parts of the record
+pub plain-sees : (c : ℕ) (e : Engine) (t : List ℕ) → plain c (asking (e .base) (e .up .burn) (e .up .run) (e .store)) t ≡ plain c e t
+unfolding plain shortOf longOf
+plain-sees c e t = go (shortOf c e)
+  where
+    go : (x : Short) → plainBy c (asking (e .base) (e .up .burn) (e .up .run) (e .store)) t x ≡ plainBy c e t x
+    go short.Empty = refl
+    go (short.Word n) = refl
+    go short.Other = refl
 
 -- ---- the window in scratch
 

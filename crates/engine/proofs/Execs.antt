@@ -20,10 +20,10 @@ use Rattle.engine.specs.declared.exec.Group.{Group}
 use Rattle.engine.specs.declared.exec.Order.{Order}
 use Rattle.engine.specs.declared.exec.Order.the-variants.{Bad, Run}
 use Rattle.engine.specs.World.{Given, World, emptied, at-e, at-reply, at-scratch, Out, outOf}
-use Rattle.engine.specs.Reply.{ok, fail, endedBy, placed, place, Placed, placing, Gone, ran, going, endsBy}
-use Rattle.engine.specs.Command.{isQuery, pairOf, inside, readOf, wrote, writeBy, writeOf, WroteTo, wroteAs, wroteBy, plain}
+use Rattle.engine.specs.Reply.{Answer, ok, fail, endedBy, placed, place, Placed, placing, Gone, ran, going, endsBy}
+use Rattle.engine.specs.Command.{isQuery, pairOf, inside, readOf, wrote, writeBy, writeOf, WroteTo, wroteAs, wroteBy, plain, asking}
 use Rattle.engine.specs.Exec.{groupOf, memory, runsBy, runs, orderBy, orderOf, begun, answered, performs, execBy, execs}
-use Rattle.engine.proofs.Commands.{laid-none}
+use Rattle.engine.proofs.Commands.{laid-none, plain-sees}
 use Rattle.engine.proofs.Replies.{ends-is}
 use Rattle.engine.proofs.Tidies.{runs-tidy}
 
@@ -108,9 +108,11 @@ pub runs-is : (g : Given) (c : ℕ) (d : List ℕ) (w : World) (v : Group) {x : 
 unfolding runs
 runs-is g c d w v p q r = r ∙ ap (λ (x : Group). going (runsBy g c d w x)) (sym q ∙ p)
 
-pub plain-told : (c : ℕ) (t : List ℕ) (w : World) {x : Ended} {p : List ℕ} → place x p ≡ placing (plain c (w .e) t) (w .reply)
+pub plain-told : (c : ℕ) (t : List ℕ) (w : World) {x : Ended} {p : List ℕ}
+    → place x p ≡ placing (plain c (asking (w .e .base) (w .e .up .burn) (w .e .up .run) (w .e .store)) t) (w .reply)
     → ended x (at-reply p w) ≡ going (ran (plain c (w .e) t) w)
-plain-told c t w p = ap (λ (z : Placed). ended (z .ended) (at-reply (z .reply) w)) p
+plain-told c t w p =
+    ap (λ (z : Placed). ended (z .ended) (at-reply (z .reply) w)) p ∙ ap (λ (a : Answer). going (ran a w)) (plain-sees c (w .e) t)
 
 -- it is run, and answered
 pub answer-told : (g : Given) (c : ℕ) (d : List ℕ) (w : World) → length (w .reply) ≡ 4112 → {x : Gone} → x ≡ going (runs g c d w) → {o : Out} → o ≡ endsBy c (x .ended) (x .w)

@@ -7,6 +7,7 @@ pub mod Storings
 pub mod Runnings
 pub mod Tidies
 pub mod Execs
+pub mod Shorts
 pub mod Frames
 pub mod Fits
 pub mod Feeds

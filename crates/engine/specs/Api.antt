@@ -40,8 +40,11 @@ unfoldable pub saidOk : Said → Bool
 saidOk s = leb (s .pos) (s .len) && leb (s .len) 4112
 
 -- target at most 2^31; written plus stream left under 2^32
+abbrev pub boundsOk : ℕ → ℕ → ℕ → Bool
+boundsOk target written left = leb target (2 ^ 31) && ltb (written + left) (2 ^ 32)
+
 unfoldable pub upOk : Update → Bool
-upOk u = leb (u .target) (2 ^ 31) && ltb (u .written + u .left) (2 ^ 32)
+upOk u = boundsOk (u .target) (u .written) (u .left)
 
 -- the engine's own numbers
 unfoldable pub engineOk : Engine → Bool

@@ -8,6 +8,7 @@ use lib.Seq.{sets}
 use Rattle.text.specs.Token.{ascii}
 use Rattle.wire.specs.Bytes.{bytesOf, wordAt}
 use Rattle.storage.specs.declared.types.Shape.{Shape}
+use Rattle.storage.specs.declared.types.Store.{Store}
 use Rattle.storage.specs.Open.{oneOf, blockSizeOf, isNand}
 use Rattle.engine.specs.declared.types.Engine.{Engine}
 use Rattle.engine.specs.declared.command.Short.{Short}
@@ -73,6 +74,19 @@ plainBy c e table Other = longOf c e table
 
 unfoldable pub plain : ℕ → Engine → List ℕ → Answer
 plain c e table = plainBy c e table (shortOf c e)
+
+-- a record of which the plain commands see no more than these four; the rest is nothing
+abbrev pub asking : ℕ → ℕ → ℕ → Store → Engine
+asking base burn run store =
+    record {
+      frame = record { len = 0; total = 0 };
+      said = record { len = 0; pos = 0 };
+      up = record { meta = []; valid = false; aimed = false; target = 0; written = 0; crc = 0; burn = burn; run = run; left = 0 };
+      upgrading = false;
+      asked = false;
+      base = base;
+      store = store;
+    }
 
 -- ---- READ and WRITE of scratch
 

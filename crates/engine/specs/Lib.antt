@@ -9,6 +9,7 @@ pub mod Storing
 pub mod StoringExamples
 pub mod Running
 pub mod Exec
+pub mod Short
 pub mod Stream
 pub mod Frame
 pub mod Feed

@@ -25,7 +25,7 @@ ghost use Rattle.storage.specs.World.{lent};
 ghost use Rattle.storage.specs.Partition.{lists, listsOk};
 ghost use Rattle.storage.specs.Open.{inBounds, partsFit, scratchOk};
 ghost use Rattle.engine.specs.World.{given, world, with-said, out};
-ghost use Rattle.engine.specs.Api.{roomsOk, frameOk, saidOk, upOk, engineOk, fits, noUpdate, fresh, noStore, refused, openedNor, openedNand, writes, took, reads, cleared};
+ghost use Rattle.engine.specs.Api.{roomsOk, frameOk, saidOk, boundsOk, fits, noUpdate, fresh, noStore, refused, openedNor, openedNand, writes, took, reads, cleared};
 
 // ---- row 9
 
@@ -61,31 +61,40 @@ fn said_ok(s: Said) -> bool
 }
 
 // The sum is tested before it is made.
-fn up_ok(u: Update) -> bool
-    ensures { λ r. ⌜ r ≡ upOk u ⌝ }
+fn up_ok(target: u64, written: u64, left: u64) -> bool
+    ensures { λ r. ⌜ r ≡ boundsOk target written left ⌝ }
 {
-    if 2147483648 < u.target {
+    if 2147483648 < target {
         return false;
     }
-    if 4294967295 < u.written {
+    if 4294967295 < written {
         return false;
     }
-    u.left < 4294967296 - u.written
+    left < 4294967296 - written
 }
 
-fn engine_ok(e: Engine) -> bool
-    ensures { λ r. ⌜ r ≡ engineOk e ⌝ }
+// The rooms' lengths and the engine's own numbers.
+pub fn numbers_ok(
+    request: usize,
+    reply: usize,
+    frame: Frame,
+    said: Said,
+    target: u64,
+    written: u64,
+    left: u64,
+) -> bool
+    ensures { λ r. ⌜ r ≡ (roomsOk request reply && (frameOk frame && (saidOk said && boundsOk target written left))) ⌝ }
 {
-    let frame = e.frame;
-    let said = e.said;
-    let up = e.up;
+    if !rooms_ok(request, reply) {
+        return false;
+    }
     if !frame_ok(frame) {
         return false;
     }
     if !said_ok(said) {
         return false;
     }
-    up_ok(up)
+    up_ok(target, written, left)
 }
 
 // The parts that are lent with a store and scratch: would an opening have taken them.
@@ -127,10 +136,17 @@ pub fn all_ok(
 ) -> bool
     ensures { λ r. ⌜ ((f t : List ℕ) → r ≡ fits (given (lent f (now (marks .entry))) (lists (now (offsets .entry)) (now (sizes .entry)) (now (lens .entry)) (now (names .entry))) t) (world e (now (request .entry)) (now (reply .entry)) (now (chip .entry)) (now (buffer .entry)) (now (scratch .entry)))) ⌝ }
 {
-    if !rooms_ok(request.len(), reply.len()) {
-        return false;
-    }
-    if !engine_ok(e) {
+    let frame = e.frame;
+    let said = e.said;
+    if !numbers_ok(
+        request.len(),
+        reply.len(),
+        frame,
+        said,
+        e.up.target,
+        e.up.written,
+        e.up.left,
+    ) {
         return false;
     }
     parts_ok(

@@ -5,6 +5,7 @@ use crate::types::Engine;
 use crate::types::Left;
 use storage::open::block_size;
 use storage::open::is_nand;
+use storage::types::Store;
 use wire::bytes::le4;
 use wire::bytes::le8;
 use wire::bytes::put;
@@ -15,7 +16,7 @@ ghost use Prim.Native.Nat.{ℕ};
 ghost use Rattle.engine.specs.World.{world};
 ghost use Rattle.engine.specs.Reply.{place, placing, gone, going};
 ghost use Rattle.engine.specs.Exec.{memory};
-ghost use Rattle.engine.specs.Command.{isQuery, hwinfo, media, geometry, tableText, shortOf, longOf, plain, pairOf, inside, readOf, wroteAs, wroteBy, writeOf};
+ghost use Rattle.engine.specs.Command.{isQuery, hwinfo, media, geometry, tableText, shortOf, longOf, plain, asking, pairOf, inside, readOf, wroteAs, wroteBy, writeOf};
 
 // `is_status_query`: the commands that a host sends just to look at the device.
 pub fn is_query(command: u8) -> bool
@@ -96,10 +97,9 @@ fn table_text(table: &[u8], reply: &mut [u8]) -> Ended
 }
 
 // The commands with more than a word to say. All other numbers are not known.
-fn long(e: Engine, command: u8, table: &[u8], reply: &mut [u8]) -> Ended
-    ensures { λ r. ⌜ place r (now (reply .exit)) ≡ placing (longOf command e (now (table .entry))) (now (reply .entry)) ⌝ }
+fn long(store: Store, command: u8, table: &[u8], reply: &mut [u8]) -> Ended
+    ensures { λ r. ⌜ place r (now (reply .exit)) ≡ placing (longOf command (asking 0 0 0 store) (now (table .entry))) (now (reply .entry)) ⌝ }
 {
-    let store = e.store;
     let shape = store.shape;
     match command {
         0x00 => {
@@ -130,33 +130,41 @@ pub enum Short {
 }
 
 // The commands with a word or nothing to say.
-fn short_of(e: Engine, command: u8) -> Short
-    ensures { λ r. ⌜ r ≡ shortOf command e ⌝ }
+fn short_of(base: u32, burn: u32, run: u32, store: Store, command: u8) -> Short
+    ensures { λ r. ⌜ r ≡ shortOf command (asking base burn run store) ⌝ }
 {
     match command {
-        0x08 => Short::Word(e.base),
+        0x08 => Short::Word(base),
         0x09 => Short::Empty,
         0x0A => Short::Empty,
         0x0C => Short::Word(0),
-        0x11 => Short::Word(block_size(e.store)),
-        0x14 => Short::Word(e.up.burn),
-        0x15 => Short::Word(e.up.run),
+        0x11 => Short::Word(block_size(store)),
+        0x14 => Short::Word(burn),
+        0x15 => Short::Word(run),
         0x19 => Short::Empty,
         _ => Short::Other,
     }
 }
 
-// The commands that touch nothing but the reply.
-pub(crate) fn plain(e: Engine, command: u8, table: &[u8], reply: &mut [u8]) -> Ended
-    ensures { λ r. ⌜ place r (now (reply .exit)) ≡ placing (plain command e (now (table .entry))) (now (reply .entry)) ⌝ }
+// The commands that touch nothing but the reply. They see four parts of the record.
+pub(crate) fn plain(
+    base: u32,
+    burn: u32,
+    run: u32,
+    store: Store,
+    command: u8,
+    table: &[u8],
+    reply: &mut [u8],
+) -> Ended
+    ensures { λ r. ⌜ place r (now (reply .exit)) ≡ placing (plain command (asking base burn run store) (now (table .entry))) (now (reply .entry)) ⌝ }
 {
-    match short_of(e, command) {
+    match short_of(base, burn, run, store, command) {
         Short::Empty => Ended::Ok(0),
         Short::Word(x) => {
             put(reply, 16, &le4(x));
             Ended::Ok(4)
         }
-        Short::Other => long(e, command, table, reply),
+        Short::Other => long(store, command, table, reply),
     }
 }
 

@@ -30,7 +30,7 @@ pub enum Group {
     Plain,
 }
 
-fn group_of(command: u8) -> Group
+pub(crate) fn group_of(command: u8) -> Group
     ensures { λ r. ⌜ r ≡ groupOf command ⌝ }
 {
     match command {
@@ -83,7 +83,7 @@ fn runs(
             reply,
         ),
         Group::Plain => {
-            let ended = plain(e, command, table, reply);
+            let ended = plain(e.base, e.up.burn, e.up.run, e.store, command, table, reply);
             Left { ended, e }
         }
     }

@@ -10,6 +10,7 @@ pub mod frame;
 pub mod reply;
 pub mod running;
 pub mod shell;
+pub mod short;
 pub mod storing;
 pub mod stream;
 pub mod types;

@@ -14,7 +14,7 @@ ghost use Rattle.engine.specs.World.{with-said, world, out};
 ghost use Rattle.engine.specs.Reply.{statusIs, headerIs, lengthIs, endsBy};
 
 // The status of the write that brought the command.
-fn status_of(ended: Ended) -> u8
+pub(crate) fn status_of(ended: Ended) -> u8
     ensures { λ r. ⌜ r ≡ statusIs ended ⌝ }
 {
     match ended {
@@ -26,7 +26,7 @@ fn status_of(ended: Ended) -> u8
 }
 
 // The header of the reply.
-fn header_of(command: u8, ended: Ended) -> [u8; 16]
+pub(crate) fn header_of(command: u8, ended: Ended) -> [u8; 16]
     ensures { λ r. ⌜ r ≡ headerIs command ended ⌝ }
 {
     match ended {
@@ -38,7 +38,7 @@ fn header_of(command: u8, ended: Ended) -> [u8; 16]
 }
 
 // The length of the reply.
-fn len_of(ended: Ended) -> usize
+pub(crate) fn len_of(ended: Ended) -> usize
     ensures { λ r. ⌜ r ≡ lengthIs ended ⌝ }
 {
     match ended {

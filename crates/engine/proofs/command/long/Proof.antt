@@ -1,6 +1,6 @@
 -- One law of lengths for each record that is laid; the number of the command picks its line.
 use Rattle.engine.proofs.Commands.{hwinfo-length, media-length, geometry-length}
-use Rattle.engine.specs.Command.{longOf}
+use Rattle.engine.specs.Command.{longOf, asking}
 use Rattle.engine.specs.Reply.{placing}
 use denote.Ref.{now}
 use Prim.Native.Nat.{ℕ}
@@ -71,7 +71,7 @@ same-length-3 c = search needs
 
 returns-3 : tie.Need-returns-3
 unfolding longOf
-returns-3 c = c .before .before .table-text .ensures ∙ ap (λ (n : ℕ). placing (longOf n (c .before .before .before .before .before .before .before .before .before .args .e) (now (c .before .before .before .before .before .before .before .before .before .args .table))) (now (c .before .before .before .before .before .before .before .before .before .args .reply))) (sym (c .before .before .before .before .match .keys3))
+returns-3 c = c .before .before .table-text .ensures ∙ ap (λ (n : ℕ). placing (longOf n (asking 0 0 0 (c .before .before .before .before .before .before .before .before .args .store)) (now (c .before .before .before .before .before .before .before .before .args .table))) (now (c .before .before .before .before .before .before .before .before .args .reply))) (sym (c .before .before .before .before .match .keys3))
 
 same-length-4 : tie.Need-same-length-4
 same-length-4 c = search needs

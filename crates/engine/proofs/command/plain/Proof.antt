@@ -1,8 +1,7 @@
 -- A word, nothing, or one of the longer replies.
 use Rattle.wire.specs.Bytes.{bytesOf}
-use Rattle.engine.proofs.Commands.{laid-none}
+use Rattle.engine.proofs.Commands.{laid-none, plain-long}
 use Rattle.engine.specs.Command.{plain}
-use mathlib.Core.Path.{_∙_}
 use borrow.Author.Needs.{needs}
 use Rattle.engine.proofs.command.plain.Statement.{statement}
 use Rattle.engine.proofs.command.plain.Tie as tie
@@ -46,8 +45,7 @@ same-length-2 : tie.Need-same-length-2
 same-length-2 c = search needs
 
 returns-3 : tie.Need-returns-3
-unfolding plain
-returns-3 c = c .before .before .long .ensures ∙ rw (← c .before .before .before .before .before .before .short-of .ensures, c .before .before .before .before .enum-told2 .given .1)
+returns-3 c = plain-long _ _ _ _ _ _ _ (c .before .before .before .before .before .before .short-of .ensures) (c .before .before .before .before .enum-told2 .given .1) (c .before .before .long .ensures)
 
 pub plain-spec : {M : Type 1} → statement M
 plain-spec =

@@ -1,6 +1,6 @@
 -- The number of the command picks its line, and past them all no line has it.
 use Rattle.engine.specs.declared.command.Short.the-variants.{Word}
-use Rattle.engine.specs.Command.{shortOf}
+use Rattle.engine.specs.Command.{shortOf, asking}
 use Prim.Native.Nat.{ℕ}
 use borrow.Author.Tests.{ne-eqb}
 use mathlib.Core.Path.{_∙_, sym, ap}
@@ -13,35 +13,35 @@ block-size-requires c κs = search needs
 
 returns : tie.Need-returns
 unfolding shortOf
-returns c = sym (ap (λ (n : ℕ). shortOf n (c .before .args .e)) (c .match .keys1))
+returns c = sym (ap (λ (n : ℕ). shortOf n (asking (c .before .args .base) (c .before .args .burn) (c .before .args .run) (c .before .args .store))) (c .match .keys1))
 
 returns-2 : tie.Need-returns-2
 unfolding shortOf
-returns-2 c = sym (ap (λ (n : ℕ). shortOf n (c .before .args .e)) (c .match .keys2))
+returns-2 c = sym (ap (λ (n : ℕ). shortOf n (asking (c .before .args .base) (c .before .args .burn) (c .before .args .run) (c .before .args .store))) (c .match .keys2))
 
 returns-3 : tie.Need-returns-3
 unfolding shortOf
-returns-3 c = sym (ap (λ (n : ℕ). shortOf n (c .before .args .e)) (c .match .keys3))
+returns-3 c = sym (ap (λ (n : ℕ). shortOf n (asking (c .before .args .base) (c .before .args .burn) (c .before .args .run) (c .before .args .store))) (c .match .keys3))
 
 returns-4 : tie.Need-returns-4
 unfolding shortOf
-returns-4 c = sym (ap (λ (n : ℕ). shortOf n (c .before .args .e)) (c .match .keys4))
+returns-4 c = sym (ap (λ (n : ℕ). shortOf n (asking (c .before .args .base) (c .before .args .burn) (c .before .args .run) (c .before .args .store))) (c .match .keys4))
 
 returns-5 : tie.Need-returns-5
 unfolding shortOf
-returns-5 c = ap Word (c .block-size .ensures) ∙ sym (ap (λ (n : ℕ). shortOf n (c .before .before .args .e)) (c .before .match .keys5))
+returns-5 c = ap Word (c .block-size .ensures) ∙ sym (ap (λ (n : ℕ). shortOf n (asking (c .before .before .args .base) (c .before .before .args .burn) (c .before .before .args .run) (c .before .before .args .store))) (c .before .match .keys5))
 
 returns-6 : tie.Need-returns-6
 unfolding shortOf
-returns-6 c = sym (ap (λ (n : ℕ). shortOf n (c .before .args .e)) (c .match .keys6))
+returns-6 c = sym (ap (λ (n : ℕ). shortOf n (asking (c .before .args .base) (c .before .args .burn) (c .before .args .run) (c .before .args .store))) (c .match .keys6))
 
 returns-7 : tie.Need-returns-7
 unfolding shortOf
-returns-7 c = sym (ap (λ (n : ℕ). shortOf n (c .before .args .e)) (c .match .keys7))
+returns-7 c = sym (ap (λ (n : ℕ). shortOf n (asking (c .before .args .base) (c .before .args .burn) (c .before .args .run) (c .before .args .store))) (c .match .keys7))
 
 returns-8 : tie.Need-returns-8
 unfolding shortOf
-returns-8 c = sym (ap (λ (n : ℕ). shortOf n (c .before .args .e)) (c .match .keys8))
+returns-8 c = sym (ap (λ (n : ℕ). shortOf n (asking (c .before .args .base) (c .before .args .burn) (c .before .args .run) (c .before .args .store))) (c .match .keys8))
 
 returns-9 : tie.Need-returns-9
 unfolding shortOf

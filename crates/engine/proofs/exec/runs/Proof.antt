@@ -66,7 +66,7 @@ returns-3 : tie.Need-returns-3
 returns-3 c = λ q. runs-is _ _ _ _ Storage (c .before .before .before .before .before .before .before .before .before .before .group-of .ensures) (c .before .before .before .before .before .before .before .before .enum-told3 .given .1) (c .before .before .before .before .stored .ensures _ q _)
 
 same-length-9 : tie.Need-same-length-9
-same-length-9 c = c .before .before .plain .kept .1 .1 .1 .0
+same-length-9 c = c .before .before .plain .kept .1 .1 .1 .1 .1 .1 .0
 
 returns-4 : tie.Need-returns-4
 returns-4 c = λ q. runs-is _ _ _ _ Plain (c .before .before .before .before .before .before .group-of .ensures) (c .before .before .before .before .enum-told4 .given .1) (plain-told _ _ _ (c .before .before .plain .ensures))
