@@ -4,3 +4,6 @@ pub mod Carry
 pub mod Bounds
 pub mod Split
 pub mod Cut
+pub mod Front
+pub mod Whole
+pub mod Query

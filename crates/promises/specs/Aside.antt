@@ -52,10 +52,7 @@ use Rattle.engine.specs.Frame.{nextOf, framed, ripens, headedBy, heads, grown, 
 use Rattle.engine.specs.Feed.{SaidFit, turns, cutOf, thenBy, goes, feeds}
 use Rattle.engine.specs.Api.{fits, writes, Read, reads, cleared}
 use Rattle.engine_laws.specs.Bounds.{in-bounds, bounds-fit, write-feeds, write-fits, reset-fits, Call, write, read, reset, after, afterAll}
-
--- the world with another place in the waiting reply
-abbrev pub at-said : Said → World → World
-at-said s w = at-e (with-said s (w .e)) w
+use Rattle.engine_laws.specs.Whole.{at-said}
 
 -- what a step from w gives, and what it gives with s for `said`: the same thing, with the place at the front, where a reply was laid; else
 -- the same with s, and then both the waiting reply and the place in it are those of w

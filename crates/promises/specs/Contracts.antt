@@ -3,7 +3,7 @@
 -- the arguments, what is returned, and the arguments at exit. So a contract that says less than all, such as a bound or an implication, is
 -- refused here. Fixed.antt, FixedStorage.antt and FixedEngine.antt have the same with the definitions written out, and the proofs.
 --
--- Sixty of the sixty-three public functions of wire, text, storage, engine and transport stand here, in the order of src/. The other three,
+-- Sixty-four of the sixty-seven public functions of wire, text, storage, engine and transport stand here, in the order of src/. The other three,
 -- of engine's bus.rt, are walked by hand and have no `Learnt`: FixedEngine.antt has them.
 use mathlib.Core.Path.{_≡_}
 use mathlib.Core.List.{[]}
@@ -36,6 +36,7 @@ use Rattle.storage.proofs.open.scratch_ok.Reads as scratch-ok
 use Rattle.storage.proofs.open.open_nor.Reads as storage-open-nor
 use Rattle.storage.proofs.open.open_nand.Reads as storage-open-nand
 use Rattle.storage.proofs.open.fits.Reads as fits
+use Rattle.storage.proofs.open.nor_fits.Reads as nor-fits
 use Rattle.storage.proofs.open.is_nand.Reads as is-nand
 use Rattle.storage.proofs.open.block_size.Reads as block-size
 use Rattle.storage.proofs.open.capacity.Reads as capacity
@@ -50,6 +51,7 @@ use Rattle.storage.proofs.store.flush.Reads as flush
 use Rattle.storage.proofs.store.erase.Reads as erase
 use Rattle.storage.proofs.store.write.Reads as storage-write
 use Rattle.storage.proofs.store.read.Reads as storage-read
+use Rattle.engine.proofs.api.numbers_ok.Reads as numbers-ok
 use Rattle.engine.proofs.api.all_ok.Reads as all-ok
 use Rattle.engine.proofs.api.open_nor.Reads as engine-open-nor
 use Rattle.engine.proofs.api.open_nand.Reads as engine-open-nand
@@ -66,6 +68,8 @@ use Rattle.engine.proofs.shell.is_reset.Reads as is-reset
 use Rattle.engine.proofs.shell.parse.Reads as shell-parse
 use Rattle.engine.proofs.shell.window_of.Reads as window-of
 use Rattle.engine.proofs.shell.boot_table.Reads as boot-table
+use Rattle.engine.proofs.short.alone_of.Reads as alone-of
+use Rattle.engine.proofs.short.answer.Reads as answer
 use Rattle.transport.proofs.port.start.Reads as start
 use Rattle.transport.proofs.step.step.Reads as step
 use Rattle.promises.specs.Fixed.{meet}
@@ -205,6 +209,10 @@ storage-open-nand-one k a r r′ s s′ = meet
 pub fits-one : Returns fits.Learnt
 fits-one k a r r′ s s′ = meet
 
+-- `open::nor_fits`
+pub nor-fits-one : Returns nor-fits.Learnt
+nor-fits-one k a r r′ s s′ = meet
+
 -- `open::is_nand`
 pub is-nand-one : Returns is-nand.Learnt
 is-nand-one k a r r′ s s′ = meet
@@ -277,7 +285,11 @@ pub storage-read-one : Fixes storage-read.Learnt (λ k r r′ s s′.
     × (now (s .1 .1 .1 .1 .1 .1 .0) ≡ now (s′ .1 .1 .1 .1 .1 .1 .0)))
 storage-read-one k a r r′ s s′ = stores.read-fixed _ _ _ _ r r′ _ _ _ _ _ _
 
--- ---- engine: api, command, shell
+-- ---- engine: api, command, shell, short
+
+-- `api::numbers_ok`
+pub numbers-ok-one : Returns numbers-ok.Learnt
+numbers-ok-one k a r r′ s s′ = meet
 
 -- `api::all_ok`: its contract speaks of every list of failing calls and every table text, neither of which it is lent
 pub all-ok-one : Returns all-ok.Learnt
@@ -350,6 +362,16 @@ window-of-one k a r r′ s s′ = meet
 -- `shell::boot_table`: what it leaves in the slice
 pub boot-table-one : Fixes boot-table.Learnt (λ k r r′ s s′. now (s .0) ≡ now (s′ .0))
 boot-table-one k a r r′ s s′ = meet
+
+-- `short::alone_of`
+pub alone-of-one : Returns alone-of.Learnt
+alone-of-one k a r r′ s s′ = meet
+
+-- `short::answer`: what it returns, and the reply
+pub answer-one : Fixes answer.Learnt (λ k r r′ s s′.
+    (r ≡ r′)
+    × (now (s .1 .1 .1 .1 .1 .1 .0) ≡ now (s′ .1 .1 .1 .1 .1 .1 .0)))
+answer-one k a r r′ s s′ = engines.answer-fixed _ _ _ _ _ _ _ r r′ _ _
 
 -- ---- transport: port, step
 

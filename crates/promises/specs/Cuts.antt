@@ -22,9 +22,9 @@ use Rattle.engine.specs.Api.{fits, writes}
 use Rattle.engine.proofs.Feeds.{feed-nil}
 use Rattle.engine_laws.specs.Bounds.{Call, write, read, reset, after, afterAll, write-feeds, write-fits, read-fits}
 use Rattle.engine_laws.specs.Cut.{Quiet, Room, cut-unaimed, cut-quiet, quiet-feeds}
-use Rattle.promises.specs.Aside.{at-said, runs-aside, feeds-aside, behind, read-at-said}
+use Rattle.engine_laws.specs.Whole.{at-said, at-request, emptiedAt, roomed, frame-done, lead, Gathers, frame-front}
+use Rattle.promises.specs.Aside.{runs-aside, feeds-aside, behind, read-at-said}
 use Rattle.promises.specs.Frames.{sentBy, NoReset}
-use Rattle.promises.specs.Whole.{at-request, emptiedAt, roomed, frame-done, lead, Gathers, frame-front}
 
 -- ---- what the host does
 

@@ -40,10 +40,10 @@ use Rattle.engine.proofs.Replies.{header-length}
 use Rattle.engine.proofs.Tidies.{runs-tidy}
 use Rattle.engine_laws.specs.Bounds.{in-bounds, write-feeds, write-fits}
 use Rattle.engine_laws.specs.Cut.{fed-left}
+use Rattle.engine_laws.specs.Whole.{at-request, emptiedAt, between-is, header-done, roomed, frame-done}
 use Rattle.promises.specs.Frames.{Between}
-use Rattle.promises.specs.Whole.{at-request, emptiedAt, header-done, roomed, frame-done}
 use Rattle.promises.specs.Update.{waiting, stream-whole, laid-waits}
-use Rattle.promises.specs.Queries.{Question, crc, burn, number, QueryFrame, between-is}
+use Rattle.promises.specs.Queries.{Question, crc, burn, number, QueryFrame}
 use Rattle.promises.specs.Why.{Unflushed}
 use Rattle.promises.specs.Replies.{Short, feeds-fed}
 use Rattle.promises.specs.Kept.{fail-length}

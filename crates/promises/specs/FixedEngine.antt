@@ -2,15 +2,17 @@
 -- shell line, geometry and partition list gets a fixed reply, with the status, the engine's record and every byte of the lent rooms, the
 -- chip and scratch. Each statement is in the words of its function's `ensures`, in the order of src/.
 use mathlib.Core.Path.{_≡_, ap}
-use mathlib.Core.Bool.{Bool}
+use mathlib.Core.Bool.{Bool, _&&_}
 use mathlib.Core.List.{List, []}
 use Prim.Native.Nat.{ℕ}
 use lib.ListN.{length}
 use Rattle.storage.specs.World.{lent}
 use Rattle.storage.specs.Partition.{Lists}
+use Rattle.storage.specs.declared.types.Store.{Store}
 use Rattle.engine.specs.World.{Given, given, World, Out, out}
-use Rattle.engine.specs.Api.{fits, openedNor, openedNand, writes, Read, took, reads, cleared}
-use Rattle.engine.specs.Command.{isQuery, pairOf}
+use Rattle.engine.specs.Api.{roomsOk, frameOk, saidOk, boundsOk, fits, openedNor, openedNand, writes, Read, took, reads, cleared}
+use Rattle.engine.specs.Command.{isQuery, asking, pairOf}
+use Rattle.engine.specs.Short.{aloneOf, Answer, answered, answerOf}
 use Rattle.engine.specs.Shell.{textOf, isWrite, isReset, lineOf, windowOf, bootTable}
 use Rattle.engine.specs.declared.api.Opening.{Opening}
 use Rattle.engine.specs.declared.api.Taken.{Taken}
@@ -18,8 +20,12 @@ use Rattle.engine.specs.declared.command.Pair.{Pair}
 use Rattle.engine.specs.declared.shell.Line.{Line}
 use Rattle.engine.specs.declared.shell.Text.{Text}
 use Rattle.engine.specs.declared.shell.Window.{Window}
+use Rattle.engine.specs.declared.short.Alone.{Alone}
+use Rattle.engine.specs.declared.short.Answered.{Answered}
 use Rattle.engine.specs.declared.types.Did.{Did}
 use Rattle.engine.specs.declared.types.Engine.{Engine}
+use Rattle.engine.specs.declared.types.Frame.{Frame}
+use Rattle.engine.specs.declared.types.Said.{Said}
 use Rattle.transport.specs.Port.{idle}
 use Rattle.transport.specs.Step.{Step, stepped, steps}
 use Rattle.transport.specs.declared.port.Port.{Port}
@@ -34,11 +40,19 @@ didOf o = record { status = o .status; e = o .w .e }
 abbrev takenOf : Read → Taken
 takenOf o = record { got = o .got; e = o .e }
 
+abbrev answeredOf : Answer → Answered
+answeredOf a = record { status = a .status; len = a .len }
+
 abbrev steppedOf : Step → Stepped
 steppedOf s =
     record { number = s .number; port = s .port; e = s .w .e; moved = s .moved; csw = s .csw; status = s .status; residue = s .residue }
 
 -- ---- engine: api
+
+-- `api::numbers_ok`
+pub numbers-ok-fixed : (request reply : ℕ) (frame : Frame) (said : Said) (target written left : ℕ)
+    → Fixes Bool (λ r. r ≡ (roomsOk request reply && (frameOk frame && (saidOk said && boundsOk target written left))))
+numbers-ok-fixed request reply frame said target written left = fixed _
 
 -- `api::all_ok`: the contract speaks of every list of failing calls and every table text, neither of which is lent
 pub all-ok-fixed : (marks : List ℕ) (l : Lists) (w : World) → Fixes Bool (λ r. (f t : List ℕ) → r ≡ fits (given (lent f marks) l t) w)
@@ -129,6 +143,18 @@ window-of-fixed base size addr len = fixed _
 -- `shell::boot_table`: what it leaves in the slice
 pub boot-table-fixed : (s : List ℕ) (base place block capacity : ℕ) → Fixes (List ℕ) (λ left. left ≡ bootTable base place block capacity s)
 boot-table-fixed s base place block capacity = fixed _
+
+-- ---- engine: short
+
+-- `short::alone_of`
+pub alone-of-fixed : (bytes : List ℕ) → Fixes Alone (λ r. r ≡ aloneOf bytes)
+alone-of-fixed bytes = fixed _
+
+-- `short::answer`: status and length, and what is left in the reply room
+pub answer-fixed : (base burn run : ℕ) (store : Store) (command : ℕ) (table reply : List ℕ) (r r′ : Answered) (p p′ : List ℕ)
+    → answered r p ≡ answerOf command (asking base burn run store) table reply → answered r′ p′ ≡ answerOf command (asking base burn run store) table reply
+    → (r ≡ r′) × (p ≡ p′)
+answer-fixed base burn run store command table reply r r′ p p′ h h′ = let e = meet h h′ in (ap answeredOf e, ap (λ a. a .reply) e)
 
 -- ---- transport
 

@@ -8,7 +8,7 @@ use mathlib.Core.List.{List}
 use Prim.Native.Nat.{ℕ}
 use lib.ListN.{length, replicate}
 use Rattle.storage.specs.World.{Lent, dev, Told, told, seen}
-use Rattle.storage.specs.Open.{geometryOk, shiftOf, scratchOk, openedNor, openedNand, inBounds, partsFit, isNand, blockSizeOf}
+use Rattle.storage.specs.Open.{geometryOk, shiftOf, scratchOk, openedNor, openedNand, inBounds, partsFit, norFits, isNand, blockSizeOf}
 use Rattle.storage.specs.Partition.{Lists, listsOk, endOf, lookup}
 use Rattle.storage.specs.Store.{flushing, erasing, writing, reading, answer}
 use Rattle.storage.specs.Scratch.{fromScratch, intoScratch}
@@ -51,6 +51,10 @@ open-nand-fixed chip page pages blocks marks capacity l base scratch stage devic
 -- `open::fits`
 pub fits-fixed : (s : Store) (chip marks buffer : ℕ) → Fixes Bool (λ r. r ≡ (inBounds s && partsFit s chip marks buffer))
 fits-fixed s chip marks buffer = fixed _
+
+-- `open::nor_fits`
+pub nor-fits-fixed : (capacity : ℕ) (held : Bool) (at chip buffer : ℕ) → Fixes Bool (λ r. r ≡ norFits capacity held at chip buffer)
+nor-fits-fixed capacity held at chip buffer = fixed _
 
 -- `open::is_nand`
 pub is-nand-fixed : (s : Store) → Fixes Bool (λ r. r ≡ isNand s)

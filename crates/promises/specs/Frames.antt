@@ -70,7 +70,7 @@ use Rattle.engine.proofs.Frames.{fills-more, fills-head}
 use Rattle.engine.proofs.Feeds.{feed-step, feed-nil, then-go, then-stop, turn-frame}
 use Rattle.engine_laws.specs.Bounds.{in-bounds, write-feeds, write-fits, read-fits, reset-fits, Call, write, read, reset, afterAll}
 use Rattle.engine_laws.specs.Cut.{write-cut-unaimed}
-use Rattle.promises.specs.Front.{gathered-header}
+use Rattle.engine_laws.specs.Front.{gathered-header}
 
 -- ---- between frames
 

@@ -31,12 +31,11 @@ use Rattle.engine.specs.Api.{fits, writes, Read, reads, readBy}
 use Rattle.engine.proofs.Replies.{header-length}
 use Rattle.engine_laws.specs.Bounds.{in-bounds, write-feeds, Call, reset, after, afterAll}
 use Rattle.engine_laws.specs.Cut.{Quiet}
+use Rattle.engine_laws.specs.Whole.{at-request, emptiedAt, between-is, roomed, frame-done}
 use Rattle.promises.specs.Frames.{Between, sentBy, NoReset}
-use Rattle.promises.specs.Whole.{at-request, emptiedAt, roomed, frame-done}
 use Rattle.promises.specs.Cuts.{Answered, Smooth, frame-smooth, carried}
 use Rattle.promises.specs.Flash.{flush-still}
 use Rattle.promises.specs.Update.{waiting, laid-waits}
-use Rattle.promises.specs.Queries.{between-is}
 use Rattle.promises.specs.Why.{metaIn}
 
 -- ---- a reply that waits

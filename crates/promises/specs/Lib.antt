@@ -5,10 +5,8 @@ pub mod FixedStorage
 pub mod FixedEngine
 pub mod Contracts
 pub mod Exported
-pub mod Front
 pub mod Frames
 pub mod Aside
-pub mod Whole
 pub mod Cuts
 pub mod Flash
 pub mod Update

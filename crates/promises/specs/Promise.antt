@@ -24,14 +24,14 @@ use Rattle.engine_laws.specs.Bounds.{Call, write, read, reset, after, afterAll,
 use Rattle.engine_laws.specs.Carry.{feeds-left}
 use Rattle.engine_laws.specs.Split.{Steady, order-steady, On, on-start, on-closed}
 use Rattle.engine_laws.specs.Cut.{Quiet, Room, cut-quiet, quiet-feeds, quiet-steady}
+use Rattle.engine_laws.specs.Whole.{emptiedAt, between-is}
 use Rattle.transport.specs.Port.{idle}
 use Rattle.promises.specs.Runs.{Act, session, actedAll, allCalls, run-calls, session-fits}
 use Rattle.promises.specs.Aside.{read-at-said}
 use Rattle.promises.specs.Frames.{Between, sentBy, NoReset}
-use Rattle.promises.specs.Whole.{emptiedAt}
 use Rattle.promises.specs.Cuts.{Answered, Smooth, smooth-append, Carried, carried}
 use Rattle.promises.specs.Update.{MetaFrame, SendFrame, Ready, Aimed, Landed, placedAt, meta-done, meta-smooth, send-done, send-smooth}
-use Rattle.promises.specs.Queries.{Question, Queries, lastOf, Replied, between-is, feeds-fits, queries-done}
+use Rattle.promises.specs.Queries.{Question, Queries, lastOf, Replied, feeds-fits, queries-done}
 
 -- ---- after any calls at all
 

@@ -14,9 +14,8 @@ use Rattle.storage.specs.World.{told}
 use Rattle.storage.specs.Store.{reading}
 use Rattle.storage.specs.Open.{oneOf}
 use Rattle.storage_laws.specs.Bounds.{either}
-use Rattle.engine.specs.declared.types.Frame.{Frame}
 use Rattle.engine.specs.declared.types.Update.{Update}
-use Rattle.engine.specs.World.{Given, World, with-frame, at-e, devOf, at-dev, Out}
+use Rattle.engine.specs.World.{Given, World, at-e, devOf, at-dev, Out}
 use Rattle.engine.specs.Reply.{ok, ran, statusBy, replyBy, replied, ends}
 use Rattle.engine.specs.Command.{shortOf, plain}
 use Rattle.engine.specs.Storing.{afterFlush, probed, crcQuery}
@@ -25,7 +24,7 @@ use Rattle.engine.specs.Feed.{feeds}
 use Rattle.engine.specs.Api.{fits}
 use Rattle.engine_laws.specs.Bounds.{in-bounds, write-feeds, write-fits}
 use Rattle.engine_laws.specs.Cut.{Quiet, Room, cut-quiet, quiet-feeds}
-use Rattle.promises.specs.Whole.{at-request, emptiedAt, roomed, frame-done}
+use Rattle.engine_laws.specs.Whole.{at-request, emptiedAt, between-is, roomed, frame-done}
 use Rattle.promises.specs.Cuts.{Smooth, smooth-append, frame-smooth}
 use Rattle.promises.specs.Flash.{flush-free-still, read-free-still}
 use Rattle.promises.specs.Update.{waiting, replied-waits, Updated}
@@ -164,10 +163,6 @@ Queries a (b ∷ more) bytes = (f rest : List ℕ) × (bytes ≡ f ++ rest) × Q
 abbrev pub lastOf : Question → List Question → Question
 lastOf a [] = a
 lastOf a (b ∷ more) = lastOf b more
-
--- between frames a world is as if its request were emptied
-pub between-is : (v : World) → v .e .frame ≡ record { len = 0; total = 0 } → emptiedAt v ≡ v
-between-is v e = ap (λ (x : Frame). at-e (with-frame x (v .e)) v) (sym e)
 
 -- what bytes in bounds leave is in bounds
 pub feeds-fits : (g : Given) (v : World) (d : List ℕ) → fits g v ≡ true → fits g (feeds g v d .w) ≡ true

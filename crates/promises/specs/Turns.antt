@@ -28,7 +28,7 @@ use Rattle.engine.specs.Frame.{nextBy, nextOf, ripens, headedBy, heads, grown, 
 use Rattle.engine.specs.Feed.{turns}
 use Rattle.engine.proofs.Tidies.{runs-tidy}
 use Rattle.engine.proofs.Frames.{Taken, next-taken}
-use Rattle.promises.specs.Front.{parsed-front}
+use Rattle.engine_laws.specs.Front.{parsed-front}
 use Rattle.promises.specs.Picked.{picked, and-false}
 
 -- ---- what a header says depends on its sixteen bytes alone

@@ -35,8 +35,8 @@ use Rattle.engine.proofs.Replies.{header-length}
 use Rattle.engine.proofs.Feeds.{feed-step, turn-stream}
 use Rattle.engine_laws.specs.Split.{on-start, on-closed, fed-aimed}
 use Rattle.engine_laws.specs.Cut.{Quiet, Room, Streaming, want-at, fed-left, cut-quiet, quiet-on, quiet-steady, within-told, within-stays}
-use Rattle.promises.specs.Aside.{at-said, fed-aside, finishes-over}
-use Rattle.promises.specs.Whole.{at-request, emptiedAt, then-nil, header-done, roomed, frame-done, lead, header-front}
+use Rattle.engine_laws.specs.Whole.{at-said, at-request, emptiedAt, then-nil, header-done, roomed, frame-done, lead, header-front}
+use Rattle.promises.specs.Aside.{fed-aside, finishes-over}
 use Rattle.promises.specs.Cuts.{Lays, At, Smooth, front-at, frame-smooth}
 use Rattle.promises.specs.Flash.{flush-still, write-still, free-view}
 

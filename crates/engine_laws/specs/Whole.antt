@@ -17,14 +17,17 @@ use Rattle.engine.specs.declared.exec.Order.the-variants.{Bad, Run}
 use Rattle.engine.specs.declared.frame.Next.the-variants.{Refused, Send, Total}
 use Rattle.engine.specs.declared.types.Frame.{Frame}
 use Rattle.engine.specs.declared.types.Said.{Said}
-use Rattle.engine.specs.World.{Given, World, world, with-frame, emptied, at-e, Out, outOf}
+use Rattle.engine.specs.World.{Given, World, world, with-frame, with-said, emptied, at-e, Out, outOf}
 use Rattle.engine.specs.Exec.{runs, orderBy, orderOf, begun, answered, performs, execBy, execs}
 use Rattle.engine.specs.Frame.{nextBy, nextOf, framed, ripens, headedBy, heads, grown, fills, gathers}
 use Rattle.engine.specs.Feed.{wantBy, wantOf, turns, cutOf, thenBy, feeds}
 use Rattle.engine.proofs.Feeds.{feed-step, feed-nil, turn-frame}
 use Rattle.engine_laws.specs.Cut.{want-less, fills-short, short-alone, cut-unaimed}
-use Rattle.promises.specs.Aside.{at-said}
-use Rattle.promises.specs.Front.{parsed-front, front-laid}
+use Rattle.engine_laws.specs.Front.{parsed-front, front-laid}
+
+-- the world with another place in the waiting reply
+abbrev pub at-said : Said → World → World
+at-said s w = at-e (with-said s (w .e)) w
 
 -- the world with other bytes in the request room
 abbrev pub at-request : List ℕ → World → World
@@ -33,6 +36,10 @@ at-request q w = world (w .e) q (w .reply) (w .chip) (w .buffer) (w .scratch)
 -- the world between frames
 abbrev pub emptiedAt : World → World
 emptiedAt w = at-e (emptied (w .e)) w
+
+-- between frames a world is as if its request were emptied
+pub between-is : (v : World) → v .e .frame ≡ record { len = 0; total = 0 } → emptiedAt v ≡ v
+between-is v e = ap (λ (x : Frame). at-e (with-frame x (v .e)) v) (sym e)
 
 -- ---- turns
 
