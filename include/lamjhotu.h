@@ -35,7 +35,7 @@
 #include <stddef.h>
 #include <stdint.h>
 
-#define LAMJHOTU_RECORD_LEN 680
+#define LAMJHOTU_RECORD_LEN 652
 #define LAMJHOTU_REQUEST_LEN 8208
 #define LAMJHOTU_REPLY_LEN 4112
 #define LAMJHOTU_BUFFER_LEN 4096

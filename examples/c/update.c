@@ -204,7 +204,7 @@ int main(int argc, char **argv)
     must(lamjhotu_reset(record, sizeof record) == LAMJHOTU_DONE, "reset");
     must(lamjhotu_host_upgrading(record, sizeof record) == 1, "a reset keeps the flag");
     must(lamjhotu_reset_requested(record, sizeof record) == 0, "nobody asked for a reset of the device");
-    must(lamjhotu_reset(record, 679) == LAMJHOTU_REFUSED, "a record of 679 bytes is refused");
+    must(lamjhotu_reset(record, LAMJHOTU_RECORD_LEN - 1) == LAMJHOTU_REFUSED, "a record that is a byte short is refused");
     printf("reset        done, the flags stay\n");
     if (argc == 2 && strcmp(argv[1], "time") == 0)
         measure(payload);

@@ -5,7 +5,8 @@ use mathlib.Core.List.{List}
 use Prim.Native.Nat.{ℕ, _-_, _^_, _≤_, _<_, min}
 use native.Mathlib.Omega.{arith}
 use borrow.Author.Tests.{le-leb, lt-leb, eq-eqb, ne-eqb}
-use lib.ListN.{length}
+use lib.ListN.{length, replicate}
+use Rattle.wire.specs.Bytes.{laid}
 use Rattle.engine.specs.declared.types.Engine.{Engine}
 use Rattle.engine.specs.declared.api.Opening.{Opening}
 use Rattle.engine.specs.declared.api.Got.{Got}
@@ -13,11 +14,11 @@ use Rattle.engine.specs.declared.api.Got.the-variants as got
 use Rattle.engine.specs.World.{Given, World, world, Out}
 use Rattle.engine.specs.Api.{fits, writes, Read, readBy, reads, cleared}
 use Rattle.engine.proofs.Apis.{said-in}
-use Rattle.lamjhotu.specs.State.{flagOf, packOf, unpackOf}
-use Rattle.lamjhotu.specs.Calls.{Told, told, holds, kept, openBy, opens, savedBy, wrote, wroteBy, writesIn, countOf, numberOf, stateBy, took, tookBy, readsIn, resets, upgradingOf, askedOf}
+use Rattle.lamjhotu.specs.State.{flagOf, unpackOf}
+use Rattle.lamjhotu.specs.Calls.{Told, told, holds, kept, newly, openBy, opens, savedBy, wrote, wroteBy, writesIn, countOf, numberOf, stateBy, took, tookBy, readsIn, resets, upgradingOf, askedOf}
 
 -- one of two, by a test that went so
-yes : {A : Type 0} (x y : A) {b : Bool} → b ≡ true → x ≡ cond b x y
+pub yes : {A : Type 0} (x y : A) {b : Bool} → b ≡ true → x ≡ cond b x y
 yes x y h = ap (λ (b : Bool). cond b x y) (sym h)
 
 no : {A : Type 0} (x y : A) {b : Bool} → b ≡ false → y ≡ cond b x y
@@ -26,19 +27,19 @@ no x y h = ap (λ (b : Bool). cond b x y) (sym h)
 -- ---- openings
 
 module _ (s : List ℕ) where
-  pub opened-yes : (o : Opening) {p : List ℕ} → o .number ≡ 0 → p ≡ kept s (o .e) → told 0 p ≡ openBy s o
-  opened-yes o h q = ap (told 0) q ∙ yes _ _ (eq-eqb (o .number) 0 h)
+  pub opened-yes : (o : Opening) {z p : List ℕ} → o .number ≡ 0 → z ≡ laid s 0 (replicate 140 0) → p ≡ kept z (o .e) → told 0 p ≡ openBy s o
+  opened-yes o h i q = ap (told 0) (q ∙ ap (λ (z : List ℕ). kept z (o .e)) i) ∙ yes _ _ (eq-eqb (o .number) 0 h)
 
   pub opened-no : (o : Opening) → (o .number ≡ 0 → ⊥) → told (o .number) s ≡ openBy s o
   opened-no o h = no _ _ (ne-eqb (o .number) 0 h)
 
-  pub open-short : (o : Opening) → length s < 680 → told 9 s ≡ opens s o
+  pub open-short : (o : Opening) → length s < 652 → told 9 s ≡ opens s o
   unfolding opens
-  open-short o h = no _ _ (lt-leb 680 (length s) h)
+  open-short o h = no _ _ (lt-leb 652 (length s) h)
 
-  pub open-long : {o w : Opening} → 680 ≤ length s → o ≡ w → {t : Told} → t ≡ openBy s o → t ≡ opens s w
+  pub open-long : {o w : Opening} → 652 ≤ length s → o ≡ w → {t : Told} → t ≡ openBy s o → t ≡ opens s w
   unfolding opens
-  open-long h q r = r ∙ ap (openBy s) q ∙ yes _ _ (le-leb 680 (length s) h)
+  open-long h q r = r ∙ ap (openBy s) q ∙ yes _ _ (le-leb 652 (length s) h)
 
 -- ---- write
 
@@ -50,79 +51,49 @@ module _ (s : List ℕ) (n : ℕ) (e : Engine) where
   saved-no h = ap (told n) (yes _ _ (eq-eqb n 9 h))
 
 module _ (g : Given) (s q p c b x d : List ℕ) where
-  pub write-short : length s < 680 → wrote 9 s q p c b x ≡ writesIn g s q p c b x d
+  pub write-short : length s < 652 → wrote 9 s q p c b x ≡ writesIn g s q p c b x d
   unfolding writesIn
-  write-short h = no _ _ (lt-leb 680 (length s) h)
+  write-short h = no _ _ (lt-leb 652 (length s) h)
 
-  pub write-long : 680 ≤ length s → {e : Engine} → e ≡ unpackOf s → {o : Out} → o ≡ writes g (world e q p c b x) d → {n : ℕ} {t : List ℕ}
+  pub write-long : 652 ≤ length s → {e : Engine} → e ≡ unpackOf s → {o : Out} → o ≡ writes g (world e q p c b x) d → {n : ℕ} {t : List ℕ}
       → told n t ≡ savedBy s (o .status) (o .w .e)
       → wrote n t (o .w .request) (o .w .reply) (o .w .chip) (o .w .buffer) (o .w .scratch) ≡ writesIn g s q p c b x d
   unfolding writesIn
   write-long h i {o} j k =
       ap (λ (t : Told). wrote (t .number) (t .state) (o .w .request) (o .w .reply) (o .w .chip) (o .w .buffer) (o .w .scratch)) k
       ∙ ap (wroteBy s) (j ∙ ap (λ (e : Engine). writes g (world e q p c b x) d) i)
-      ∙ yes _ _ (le-leb 680 (length s) h)
+      ∙ yes _ _ (le-leb 652 (length s) h)
 
 -- ---- read
 
--- no more is copied than a reply room has
-pub read-few : (g : Given) (w : World) (room : List ℕ) {r : Read} → r ≡ reads g w room → countOf (r .got) ≤ 4112
-unfolding reads
-read-few g w room q = rw q (go (fits g w) refl)
-  where
-    n : ℕ
-    n = min (w .e .said .len - w .e .said .pos) (length room)
-
-    refused : Read
-    refused = record { got = got.Refused; e = w .e; room = room }
-
-    go : (b : Bool) → fits g w ≡ b → countOf ((cond b (readBy w room n) refused) .got) ≤ 4112
-    go true h = omega (arith, said-in g w h .0 .1)
-    go false h = omega arith
-
-module _ (s : List ℕ) (e : Engine) where
-  pub taken-none : {x : Got} → x ≡ got.Refused → told (2 ^ 32 - 1) s ≡ told (numberOf x) (stateBy s e x)
-  taken-none h = ap (λ (x : Got). told (numberOf x) (stateBy s e x)) (sym h)
-
-  pub taken-some : {x : Got} {n : ℕ} {p : List ℕ} → x ≡ got.Count n → p ≡ kept s e → told n p ≡ told (numberOf x) (stateBy s e x)
-  taken-some {n = n} h q = ap (told n) q ∙ ap (λ (x : Got). told (numberOf x) (stateBy s e x)) (sym h)
-
 module _ (g : Given) (s q p c b x room : List ℕ) where
-  pub read-short : length s < 680 → took (2 ^ 32 - 1) s room ≡ readsIn g s q p c b x room
+  pub read-short : length s < 652 → took (2 ^ 32 - 1) s room ≡ readsIn g s q p c b x room
   unfolding readsIn
-  read-short h = no _ _ (lt-leb 680 (length s) h)
-
-  pub read-long : 680 ≤ length s → {e : Engine} → e ≡ unpackOf s → {r : Read} → r ≡ reads g (world e q p c b x) room → {n : ℕ} {t : List ℕ}
-      → told n t ≡ told (numberOf (r .got)) (stateBy s (r .e) (r .got)) → took n t (r .room) ≡ readsIn g s q p c b x room
-  unfolding readsIn
-  read-long h i {r} j k =
-      ap (λ (t : Told). took (t .number) (t .state) (r .room)) k
-      ∙ ap (tookBy s) (j ∙ ap (λ (e : Engine). reads g (world e q p c b x) room) i)
-      ∙ yes _ _ (le-leb 680 (length s) h)
+  read-short h = no _ _ (lt-leb 652 (length s) h)
 
 -- ---- reset and the flags
 
 module _ (s : List ℕ) where
-  pub reset-short : length s < 680 → told 9 s ≡ resets s
+  pub reset-short : length s < 652 → told 9 s ≡ resets s
   unfolding resets
-  reset-short h = no _ _ (lt-leb 680 (length s) h)
+  reset-short h = no _ _ (lt-leb 652 (length s) h)
 
-  pub reset-long : 680 ≤ length s → {e f : Engine} → e ≡ unpackOf s → f ≡ cleared e → {p : List ℕ} → p ≡ kept s f → told 0 p ≡ resets s
+  pub reset-long : 652 ≤ length s → {e f : Engine} → e ≡ unpackOf s → f ≡ cleared e → {p : List ℕ} → p ≡ kept s f → told 0 p ≡ resets s
   unfolding resets
-  reset-long h i j k = ap (told 0) (k ∙ ap (kept s) (j ∙ ap cleared i)) ∙ yes _ _ (le-leb 680 (length s) h)
+  reset-long h i j k = ap (told 0) (k ∙ ap (kept s) (j ∙ ap cleared i)) ∙ yes _ _ (le-leb 652 (length s) h)
 
-  pub upgrading-short : length s < 680 → 9 ≡ upgradingOf s
+  pub upgrading-short : length s < 652 → 9 ≡ upgradingOf s
   unfolding upgradingOf
-  upgrading-short h = no _ _ (lt-leb 680 (length s) h)
+  upgrading-short h = no _ _ (lt-leb 652 (length s) h)
 
-  pub upgrading-long : 680 ≤ length s → {e : Engine} → e ≡ unpackOf s → {b : Bool} → b ≡ e .upgrading → {n : ℕ} → n ≡ flagOf b → n ≡ upgradingOf s
+  pub upgrading-long : 652 ≤ length s → {e : Engine} → e ≡ unpackOf s → {b : Bool} → b ≡ e .upgrading → {n : ℕ} → n ≡ flagOf b → n ≡ upgradingOf s
   unfolding upgradingOf
-  upgrading-long h i j k = k ∙ ap flagOf (j ∙ ap (λ (e : Engine). e .upgrading) i) ∙ yes _ _ (le-leb 680 (length s) h)
+  upgrading-long h i j k = k ∙ ap flagOf (j ∙ ap (λ (e : Engine). e .upgrading) i) ∙ yes _ _ (le-leb 652 (length s) h)
 
-  pub asked-short : length s < 680 → 9 ≡ askedOf s
+  pub asked-short : length s < 652 → 9 ≡ askedOf s
   unfolding askedOf
-  asked-short h = no _ _ (lt-leb 680 (length s) h)
+  asked-short h = no _ _ (lt-leb 652 (length s) h)
 
-  pub asked-long : 680 ≤ length s → {e : Engine} → e ≡ unpackOf s → {b : Bool} → b ≡ e .asked → {n : ℕ} → n ≡ flagOf b → n ≡ askedOf s
+  pub asked-long : 652 ≤ length s → {e : Engine} → e ≡ unpackOf s → {b : Bool} → b ≡ e .asked → {n : ℕ} → n ≡ flagOf b → n ≡ askedOf s
   unfolding askedOf
-  asked-long h i j k = k ∙ ap flagOf (j ∙ ap (λ (e : Engine). e .asked) i) ∙ yes _ _ (le-leb 680 (length s) h)
+  asked-long h i j k = k ∙ ap flagOf (j ∙ ap (λ (e : Engine). e .asked) i) ∙ yes _ _ (le-leb 652 (length s) h)

@@ -1,3 +1,4 @@
 -- The laws of the definitions.
 pub mod States
 pub mod Exports
+pub mod Shorts

@@ -2,16 +2,31 @@
 use mathlib.Core.Path.{_≡_, refl, sym, ap, _∙_}
 use mathlib.Core.Bool.{Bool, cond}
 use mathlib.Core.List.{List, [], _∷_, _++_}
-use Prim.Native.Nat.{ℕ, suc, _+_, _-_, _≤_}
+use Prim.Native.Nat.{ℕ, suc, _+_, _-_, _*_, _≤_}
 use native.Mathlib.Nat.{add-zero}
 use native.Mathlib.Omega.{arith}
 use borrow.Author.Tests.{le-leb}
 use lib.Dec.{leb}
-use lib.ListN.{length, set, take, drop, length-append}
-use lib.Seq.{sets, length-sets}
-use Rattle.wire.specs.Bytes.{bytesOf, laid}
+use lib.ListN.{length, set, getD, take, drop, length-append}
+use lib.Seq.{sets, length-sets, getD-drop}
+use Rattle.wire.specs.Bytes.{bytesOf, wordAt, laid}
+use Rattle.wire.proofs.Words.{four}
 use Rattle.engine.specs.declared.types.Engine.{Engine}
-use Rattle.lamjhotu.specs.State.{erasedBlock, fourOf, wordsOf, marksOf, packOf}
+use Rattle.engine.specs.World.{with-said}
+use Rattle.lamjhotu.specs.State.{blockOver, fourOf, wordsOver, smallsOf, marksOver, packOver, unpackOf}
+use Rattle.lamjhotu.specs.StateLaws.{Bytes, pack-said}
+
+-- ---- a word from its bytes
+
+four-at : (s : List ℕ) (at : ℕ) → getD s at 0 + 256 * (getD s (at + 1) 0 + 256 * (getD s (at + 2) 0 + 256 * getD s (at + 3) 0)) ≡ wordAt 4 s at
+unfolding wordAt
+four-at s at =
+    let z : getD (drop at s) 0 0 ≡ getD s at 0 = getD-drop at s 0 0 ∙ ap (λ (k : ℕ). getD s k 0) (add-zero at) in
+    omega (arith, four (drop at s), z, getD-drop at s 1 0, getD-drop at s 2 0, getD-drop at s 3 0)
+
+pub low-told : (s : List ℕ) (at : ℕ) {a b c d : ℕ} → a ≡ getD s at 0 → b ≡ getD s (at + 1) 0 → c ≡ getD s (at + 2) 0 → d ≡ getD s (at + 3) 0
+    → a + 256 * (b + 256 * (c + 256 * d)) ≡ wordAt 4 s at
+low-told s at h i j k = rw (h, i, j, k) (four-at s at)
 
 -- ---- one piece behind another
 
@@ -49,34 +64,49 @@ module _ (s : List ℕ) (at a b c d : ℕ) (h : at + 32 ≤ length s) where
       (behind s at (bytesOf 8 a ++ bytesOf 8 b) (bytesOf 8 c) (omega arith) (behind s at (bytesOf 8 a) (bytesOf 8 b) (omega arith) i j) k)
       l
 
-module _ (s : List ℕ) (e : Engine) (h : 680 ≤ length s) where
+module _ (s : List ℕ) (e : Engine) (h : 652 ≤ length s) where
   abbrev w₁ : List ℕ
   w₁ = fourOf (e .frame .len) (e .frame .total) (e .said .len) (e .said .pos)
 
   abbrev w₂ : List ℕ
-  w₂ = fourOf (e .up .target) (e .up .written) (e .up .left) (e .up .crc)
+  w₂ = fourOf (e .up .target) (e .up .written) (e .up .left) (e .store .shape .capacity)
 
   abbrev w₃ : List ℕ
-  w₃ = fourOf (e .up .burn) (e .up .run) (e .base) (e .store .shape .device)
+  w₃ = fourOf (e .store .shape .page) (e .store .shape .pages) (e .store .shape .blocks) (e .store .at)
 
-  abbrev w₄ : List ℕ
-  w₄ = fourOf (e .store .shape .page) (e .store .shape .pages) (e .store .shape .blocks) (e .store .shape .capacity)
+  pub words-told : {w b : ℕ} {p q r t u : List ℕ} → w ≡ wordAt 8 s 96 → b ≡ blockOver w (e .store .erased) → p ≡ laid s 0 w₁ → q ≡ laid p 32 w₂ → r ≡ laid q 64 w₃ → t ≡ laid r 96 (bytesOf 8 b)
+      → u ≡ laid t 104 (bytesOf 8 (e .store .calls)) → u ≡ laid s 0 (wordsOver s e)
+  unfolding wordsOver fourOf bytesOf
+  words-told {r = r} v x i j k l m =
+      let y = x ∙ ap (λ (w : ℕ). blockOver w (e .store .erased)) v in
+      behind s 0 (w₁ ++ (w₂ ++ (w₃ ++ bytesOf 8 (blockOver (wordAt 8 s 96) (e .store .erased))))) (bytesOf 8 (e .store .calls)) (omega arith)
+      (behind s 0 (w₁ ++ (w₂ ++ w₃)) (bytesOf 8 (blockOver (wordAt 8 s 96) (e .store .erased))) (omega arith) (behind s 0 (w₁ ++ w₂) w₃ (omega arith) (behind s 0 w₁ w₂ (omega arith) i j) k)
+      (l ∙ ap (λ (b : ℕ). laid r 96 (bytesOf 8 b)) y))
+      m
 
-  abbrev w₅ : ℕ → List ℕ
-  w₅ b = fourOf (e .store .at) b (e .store .calls) (e .store .shape .stage)
+  pub smalls-told : {p q r t u : List ℕ} → p ≡ laid s 112 (bytesOf 4 (e .up .crc)) → q ≡ laid p 116 (bytesOf 4 (e .up .burn)) → r ≡ laid q 120 (bytesOf 4 (e .up .run))
+      → t ≡ laid r 124 (bytesOf 4 (e .base)) → u ≡ laid t 128 (bytesOf 4 (e .store .shape .device)) → u ≡ laid s 112 (smallsOf e)
+  unfolding smallsOf bytesOf
+  smalls-told i j k l m =
+      let a : List ℕ = bytesOf 4 (e .up .crc) in
+      let b : List ℕ = bytesOf 4 (e .up .burn) in
+      let c : List ℕ = bytesOf 4 (e .up .run) in
+      let d : List ℕ = bytesOf 4 (e .base) in
+      behind s 112 (a ++ (b ++ (c ++ d))) (bytesOf 4 (e .store .shape .device)) (omega arith)
+      (behind s 112 (a ++ (b ++ c)) d (omega arith) (behind s 112 (a ++ b) c (omega arith) (behind s 112 a b (omega arith) i j) k) l)
+      m
 
-  pub words-told : {b : ℕ} {p q r t u : List ℕ} → b ≡ erasedBlock (e .store .erased) → p ≡ laid s 0 w₁ → q ≡ laid p 32 w₂ → r ≡ laid q 64 w₃ → t ≡ laid r 96 w₄
-      → u ≡ laid t 128 (w₅ b) → u ≡ laid s 0 (wordsOf e)
-  unfolding wordsOf fourOf bytesOf
-  words-told {b} {t = t} x i j k l m =
-      behind s 0 (w₁ ++ (w₂ ++ (w₃ ++ w₄))) (w₅ (erasedBlock (e .store .erased))) (omega arith)
-      (behind s 0 (w₁ ++ (w₂ ++ w₃)) w₄ (omega arith) (behind s 0 (w₁ ++ w₂) w₃ (omega arith) (behind s 0 w₁ w₂ (omega arith) i j) k) l)
-      (m ∙ ap (λ (b : ℕ). laid t 128 (w₅ b)) x)
+  pub pack-told : {x : List ℕ} {p q r t : List ℕ} → length (e .up .meta) ≡ 512 → x ≡ marksOver s e → p ≡ laid s 0 (wordsOver s e) → q ≡ laid p 112 (smallsOf e) → r ≡ laid q 132 x
+      → t ≡ laid r 140 (e .up .meta) → t ≡ laid s 0 (packOver s e)
+  unfolding packOver wordsOver smallsOf marksOver fourOf bytesOf
+  pack-told {q = q} n x i j k l =
+      behind s 0 (wordsOver s e ++ (smallsOf e ++ marksOver s e)) (e .up .meta) (omega arith)
+      (behind s 0 (wordsOver s e ++ smallsOf e) (marksOver s e) (omega arith) (behind s 0 (wordsOver s e) (smallsOf e) (omega arith) i j)
+      (k ∙ ap (λ (m : List ℕ). laid q 132 m) x))
+      l
 
-  pub pack-told : {x : List ℕ} {p q r : List ℕ} → length (e .up .meta) ≡ 512 → x ≡ marksOf e → p ≡ laid s 0 (wordsOf e) → q ≡ laid p 160 x → r ≡ laid q 168 (e .up .meta)
-      → r ≡ laid s 0 (packOf e)
-  unfolding packOf wordsOf marksOf fourOf bytesOf
-  pack-told {p = p} n x i j k =
-      behind s 0 (wordsOf e ++ marksOf e) (e .up .meta) (omega arith)
-      (behind s 0 (wordsOf e) (marksOf e) (omega arith) i (j ∙ ap (λ (l : List ℕ). laid p 160 l) x))
-      k
+-- two numbers, one behind the other, are all that another place in the reply changes
+pub said-told : (s : List ℕ) (l p : ℕ) {q r : List ℕ} → 652 ≤ length s → Bytes s → q ≡ laid s 16 (bytesOf 8 l) → r ≡ laid q 24 (bytesOf 8 p)
+    → r ≡ laid s 0 (packOver s (with-said (record { len = l; pos = p }) (unpackOf s)))
+unfolding bytesOf
+said-told s l p h b i j = behind s 16 (bytesOf 8 l) (bytesOf 8 p) (omega arith) i j ∙ sym (pack-said s b h l p)

@@ -33,7 +33,7 @@ module _ (g : Given) (s q p c b x : List ℕ) (h : fits g (world (unpackOf s) q 
 
 module _ (g : Given) (q p c b x : List ℕ) where
   abbrev zeros : List ℕ
-  zeros = replicate 680 0
+  zeros = replicate 652 0
 
   abbrev zeroed : World
   zeroed = world (unpackOf zeros) q p c b x

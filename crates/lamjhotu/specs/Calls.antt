@@ -1,17 +1,24 @@
 -- The exported calls: the engine's own, on a record that lies in bytes (01, 'Replies and refusals', row 9).
-use mathlib.Core.Bool.{Bool, true, false, cond}
+use mathlib.Core.Bool.{Bool, true, false, _&&_, cond}
 use mathlib.Core.List.{List}
-use Prim.Native.Nat.{ℕ, _-_, _^_}
+use Prim.Native.Nat.{ℕ, _+_, _-_, _^_, min}
 use lib.Dec.{leb, eqb}
-use lib.ListN.{length}
-use Rattle.wire.specs.Bytes.{laid}
+use lib.ListN.{length, replicate, take, drop}
+use lib.Seq.{sets}
+use Rattle.wire.specs.Bytes.{wordAt, laid}
+use Rattle.storage.specs.Open.{inBounds, partsFit, scratchOk}
 use Rattle.engine.specs.declared.types.Engine.{Engine}
 use Rattle.engine.specs.declared.api.Opening.{Opening}
 use Rattle.engine.specs.declared.api.Got.{Got}
 use Rattle.engine.specs.declared.api.Got.the-variants as got
-use Rattle.engine.specs.World.{Given, World, world, Out}
-use Rattle.engine.specs.Api.{writes, Read, reads, cleared}
-use Rattle.lamjhotu.specs.State.{flagOf, packOf, unpackOf}
+use Rattle.engine.specs.World.{Given, World, world, with-said, Out}
+use Rattle.engine.specs.Api.{roomsOk, engineOk, fits, writes, Read, reads, cleared}
+use Rattle.engine.specs.Short.{Answer, aloneOf, answerOf}
+use Rattle.engine.specs.declared.short.Alone.{Alone}
+use Rattle.engine.specs.declared.short.Alone.the-variants.{Other, Query}
+use Rattle.lamjhotu.specs.declared.calls.Quick.{Quick}
+use Rattle.lamjhotu.specs.declared.calls.Quick.the-variants.{No, Done}
+use Rattle.lamjhotu.specs.State.{flagOf, packOver, unpackOf}
 
 -- what a call answers, and the bytes of the state
 pub record Told : Type 0 where
@@ -23,17 +30,21 @@ told n s = record { number = n; state = s }
 
 -- a state is long enough
 abbrev pub holds : List ℕ → Bool
-holds s = leb 680 (length s)
+holds s = leb 652 (length s)
 
--- the state with a record packed at its front
+-- the state with a record packed over its front
 abbrev pub kept : List ℕ → Engine → List ℕ
-kept s e = laid s 0 (packOf e)
+kept s e = laid s 0 (packOver s e)
+
+-- as an opening leaves it: what stood there does not matter
+abbrev pub newly : List ℕ → Engine → List ℕ
+newly s e = kept (laid s 0 (replicate 140 0)) e
 
 -- ---- openings
 
 -- the record is kept where the opening answers 0
 abbrev pub openBy : List ℕ → Opening → Told
-openBy s o = cond (eqb (o .number) 0) (told 0 (kept s (o .e))) (told (o .number) s)
+openBy s o = cond (eqb (o .number) 0) (told 0 (newly s (o .e))) (told (o .number) s)
 
 unfoldable pub opens : List ℕ → Opening → Told
 opens s o = cond (holds s) (openBy s o) (told 9 s)
@@ -105,3 +116,58 @@ upgradingOf s = cond (holds s) (flagOf (unpackOf s .upgrading)) 9
 
 unfoldable pub askedOf : List ℕ → ℕ
 askedOf s = cond (holds s) (flagOf (unpackOf s .asked)) 9
+
+-- ---- the same on the state's bytes, as the code goes
+
+-- row 9 but for the lists: the rooms' lengths, the record, and the lengths of all else that is lent
+unfoldable pub fitsBut : Engine → ℕ → ℕ → ℕ → ℕ → ℕ → ℕ → Bool
+fitsBut e request reply chip buffer scratch marks =
+    roomsOk request reply && (engineOk e && ((inBounds (e .store) && partsFit (e .store) chip marks buffer) && scratchOk (e .base) scratch))
+
+-- the frame's length and the stream's rest are both the frame's total: of a record in bounds, all are 0
+unfoldable pub idleOf : List ℕ → Bool
+idleOf s = eqb (wordAt 8 s 0) (wordAt 8 s 8) && eqb (wordAt 8 s 48) (wordAt 8 s 8)
+
+-- what the answer to a query leaves: a status, the state, the request room and the reply room
+pub record Asked : Type 0 where
+  pub number : ℕ
+  pub state : List ℕ
+  pub request : List ℕ
+  pub reply : List ℕ
+
+abbrev pub asks : ℕ → List ℕ → List ℕ → List ℕ → Asked
+asks n s q p = record { number = n; state = s; request = q; reply = p }
+
+abbrev pub asked : List ℕ → List ℕ → List ℕ → Answer → Asked
+asked s q bytes a = asks (a .status) (kept s (with-said (record { len = a .len; pos = 0 }) (unpackOf s))) (laid q 0 bytes) (a .reply)
+
+-- whether a write was such a query and is done, the state and the two rooms
+pub record Quickly : Type 0 where
+  pub quick : Quick
+  pub state : List ℕ
+  pub request : List ℕ
+  pub reply : List ℕ
+
+abbrev pub quickly : Quick → List ℕ → List ℕ → List ℕ → Quickly
+quickly r s q p = record { quick = r; state = s; request = q; reply = p }
+
+abbrev pub doneBy : Asked → Quickly
+doneBy a = quickly (Done (a .number)) (a .state) (a .request) (a .reply)
+
+abbrev pub quickBy : Given → List ℕ → List ℕ → List ℕ → List ℕ → List ℕ → List ℕ → List ℕ → Alone → Quickly
+quickBy g s q p c b x bytes Other = quickly No s q p
+quickBy g s q p c b x bytes (Query k) =
+    cond (fits g (world (unpackOf s) q p c b x))
+    (cond (idleOf s) (doneBy (asked s q bytes (answerOf k (unpackOf s) (g .table) p))) (quickly No s q p))
+    (quickly (Done 9) s q p)
+
+unfoldable pub quickOf : Given → List ℕ → List ℕ → List ℕ → List ℕ → List ℕ → List ℕ → List ℕ → Quickly
+quickOf g s q p c b x bytes = quickBy g s q p c b x bytes (aloneOf bytes)
+
+-- the next bytes of the reply
+abbrev pub nextOf : List ℕ → List ℕ → List ℕ → ℕ → Took
+nextOf s p room n =
+    took n (kept s (with-said (record { len = wordAt 8 s 16; pos = wordAt 8 s 24 + n }) (unpackOf s))) (sets room 0 (take n (drop (wordAt 8 s 24) p)))
+
+unfoldable pub nextBy : List ℕ → List ℕ → List ℕ → Took
+nextBy s p room = nextOf s p room (min (wordAt 8 s 16 - wordAt 8 s 24) (length room))

@@ -3,12 +3,21 @@ use Rattle.lamjhotu.proofs.States.{pack-told}
 use borrow.Author.Needs.{needs}
 use Rattle.lamjhotu.proofs.state.pack.Statement.{statement}
 use Rattle.lamjhotu.proofs.state.pack.Tie as tie
+use Rattle.lamjhotu.proofs.state.pack.Reads as reads
+use Rattle.lamjhotu.proofs.state.pack.Lts as lts
+use Rattle.lamjhotu.proofs.state.marks.Reads as marks-reads
+use Rattle.lamjhotu.proofs.state.smalls.Reads as smalls-reads
+use Rattle.lamjhotu.proofs.state.words.Reads as words-reads
+use Rattle.wire.proofs.bytes.put.Reads as put-reads
+
+marks-requires : tie.Need-marks-requires
+marks-requires c κs = search needs
 
 words-requires : tie.Need-words-requires
 words-requires c κs = search needs
 
-marks-requires : tie.Need-marks-requires
-marks-requires c κs = search needs
+smalls-requires : tie.Need-smalls-requires
+smalls-requires c κs = search needs
 
 slice-aggregate-put : tie.Need-slice-aggregate-put
 slice-aggregate-put c = search needs
@@ -26,14 +35,15 @@ same-length : tie.Need-same-length
 same-length c = search needs
 
 returns : tie.Need-returns
-returns c = pack-told _ _ (c .before .before .before .before .before .before .before .before .before .before .before .before .before .before .before .before .before .pre) (search needs) (c .before .before .before .before .before .before .before .before .before .marks .ensures) (c .before .before .before .before .before .before .before .before .before .before .before .before .before .words .ensures) (c .before .before .before .before .before .before .before .put .ensures) (c .before .before .put2 .ensures)
+returns c = pack-told _ _ (c .before .before .before .before .before .before .before .before .before .before .before .before .before .before .before .before .before .before .before .before .before .before .pre) (search (needs, c .before .before .before .before .before .before .before .before .before .before .before .before .before .before .before .before .before .before .before .before .before .before .good)) (c .before .before .before .before .before .before .before .before .before .before .before .before .before .before .before .before .before .before .marks .ensures) (c .before .before .before .before .before .before .before .before .before .before .before .before .before .before .before .before .words .ensures) (c .before .before .before .before .before .before .before .before .before .before .before .before .smalls .ensures) (c .before .before .before .before .before .before .before .put .ensures) (c .before .before .put2 .ensures)
 
 pub pack-spec : {M : Type 1} → statement M
 pack-spec =
     tie.close
     (tie.spec
-    words-requires
     marks-requires
+    words-requires
+    smalls-requires
     slice-aggregate-put
     put-requires
     slice-aggregate-put-2
