@@ -1,21 +1,17 @@
 -- The exported calls, case by case, as the code goes.
-use mathlib.Core.Path.{_≡_, refl, sym, ap, _∙_}
+use mathlib.Core.Path.{_≡_, sym, ap, _∙_}
 use mathlib.Core.Bool.{Bool, true, false, cond}
 use mathlib.Core.List.{List}
-use Prim.Native.Nat.{ℕ, _-_, _^_, _≤_, _<_, min}
-use native.Mathlib.Omega.{arith}
+use Prim.Native.Nat.{ℕ, _-_, _^_, _≤_, _<_}
 use borrow.Author.Tests.{le-leb, lt-leb, eq-eqb, ne-eqb}
 use lib.ListN.{length, replicate}
 use Rattle.wire.specs.Bytes.{laid}
 use Rattle.engine.specs.declared.types.Engine.{Engine}
 use Rattle.engine.specs.declared.api.Opening.{Opening}
-use Rattle.engine.specs.declared.api.Got.{Got}
-use Rattle.engine.specs.declared.api.Got.the-variants as got
-use Rattle.engine.specs.World.{Given, World, world, Out}
-use Rattle.engine.specs.Api.{fits, writes, Read, readBy, reads, cleared}
-use Rattle.engine.proofs.Apis.{said-in}
+use Rattle.engine.specs.World.{Given, world, Out}
+use Rattle.engine.specs.Api.{writes, cleared}
 use Rattle.lamjhotu.specs.State.{flagOf, unpackOf}
-use Rattle.lamjhotu.specs.Calls.{Told, told, holds, kept, newly, openBy, opens, savedBy, wrote, wroteBy, writesIn, countOf, numberOf, stateBy, took, tookBy, readsIn, resets, upgradingOf, askedOf}
+use Rattle.lamjhotu.specs.Calls.{Told, told, kept, openBy, opens, savedBy, wrote, wroteBy, writesIn, took, readsIn, resets, upgradingOf, askedOf}
 
 -- one of two, by a test that went so
 pub yes : {A : Type 0} (x y : A) {b : Bool} → b ≡ true → x ≡ cond b x y

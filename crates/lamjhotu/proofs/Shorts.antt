@@ -1,10 +1,10 @@
 -- Reads and short queries on the state's bytes. Row 9 is tested without the record being put together (`fits-so`, `fits-not`); a state in
 -- bounds whose frame is as long as its total is between frames (`idle-so`), so that a query alone is the answer that `query-alone` of
 -- engine_laws gives (`query-told`); and a read is the next bytes of the reply (`next-told`, `read-told`).
-use mathlib.Core.Path.{_≡_, refl, sym, ap, ap₂, _∙_}
+use mathlib.Core.Path.{_≡_, refl, sym, ap, _∙_}
 use mathlib.Core.Bool.{Bool, true, false, _&&_, cond}
 use mathlib.Core.List.{List}
-use Prim.Native.Nat.{ℕ, zero, suc, _+_, _-_, _^_, _≤_, _<_, min}
+use Prim.Native.Nat.{ℕ, zero, suc, _+_, _-_, _^_, _≤_, min}
 use native.Mathlib.Omega.{arith}
 use borrow.Author.Tests.{le-leb, leb-true, eqb-true, eqb-false, ne-eqb}
 use lib.Dec.{leb, eqb}
@@ -22,7 +22,7 @@ use Rattle.engine.specs.declared.short.Answered.{Answered}
 use Rattle.storage.specs.declared.types.Store.{Store}
 use Rattle.engine.specs.declared.short.Alone.{Alone}
 use Rattle.engine.specs.declared.short.Alone.the-variants.{Other, Query}
-use Rattle.engine.specs.World.{Given, World, world, with-said, devOf, Out}
+use Rattle.engine.specs.World.{Given, World, world, with-said, devOf}
 use Rattle.engine.specs.Reply.{statusIs, placing}
 use Rattle.engine.specs.Reply as said
 use Rattle.engine.specs.Command.{plain, asking}

@@ -1,13 +1,12 @@
 -- The record's bytes as the code lays and reads them.
-use mathlib.Core.Path.{_≡_, refl, sym, ap, _∙_}
+use mathlib.Core.Path.{_≡_, sym, ap, _∙_}
 use mathlib.Core.Bool.{Bool, cond}
 use mathlib.Core.List.{List, [], _∷_, _++_}
-use Prim.Native.Nat.{ℕ, suc, _+_, _-_, _*_, _≤_}
+use Prim.Native.Nat.{ℕ, suc, _+_, _*_, _≤_}
 use native.Mathlib.Nat.{add-zero}
 use native.Mathlib.Omega.{arith}
 use borrow.Author.Tests.{le-leb}
-use lib.Dec.{leb}
-use lib.ListN.{length, set, getD, take, drop, length-append}
+use lib.ListN.{length, set, getD, drop, length-append}
 use lib.Seq.{sets, length-sets, getD-drop}
 use Rattle.wire.specs.Bytes.{bytesOf, wordAt, laid}
 use Rattle.wire.proofs.Words.{four}

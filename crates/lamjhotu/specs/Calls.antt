@@ -76,11 +76,6 @@ writesIn g s q p c b x d = cond (holds s) (wroteBy s (writes g (world (unpackOf 
 
 -- ---- read
 
--- how many bytes a read copied
-abbrev pub countOf : Got → ℕ
-countOf got.Refused = 0
-countOf (got.Count n) = n
-
 -- the number that tells a refusal from a count
 abbrev pub numberOf : Got → ℕ
 numberOf got.Refused = 2 ^ 32 - 1

@@ -9,7 +9,7 @@ use native.Mathlib.Omega.{arith}
 use borrow.Author.Tests.{eqb-true}
 use lib.Dec.{eqb, lit<}
 use lib.ListN.{length, getD, take, drop, length-append, length-take, length-drop, take-append-drop}
-use lib.Seq.{take-at, take-add, take-nil, drop-drop, getD-drop}
+use lib.Seq.{take-at, take-add, drop-drop, getD-drop}
 use Rattle.wire.specs.Bytes.{bytesOf, le, wordAt, laid}
 use Rattle.wire.proofs.Copies.{laid-fits}
 use Rattle.wire.proofs.Words.{le-bytesOf}

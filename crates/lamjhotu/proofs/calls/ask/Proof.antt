@@ -1,7 +1,4 @@
 -- The answer from four parts of the record, and its place.
-use mathlib.Core.Path.{sym, ap, _∙_}
-use mathlib.Core.List.{List}
-use Rattle.engine.specs.Short.{Answer}
 use Rattle.lamjhotu.proofs.Shorts.{ask-told}
 use borrow.Author.Needs.{needs}
 use Rattle.lamjhotu.proofs.calls.ask.Statement.{statement}

@@ -1,5 +1,5 @@
 -- What the bytes ask, row 9, between frames or not, and the answer.
-use mathlib.Core.Path.{sym, ap, _∙_}
+use mathlib.Core.Path.{sym, _∙_}
 use borrow.Author.Tests.{not-true, not-false}
 use Rattle.lamjhotu.proofs.Shorts.{fits-so, fits-lists, fits-not, quick-other, quick-refused, quick-busy, quick-asked}
 use borrow.Author.Needs.{needs}

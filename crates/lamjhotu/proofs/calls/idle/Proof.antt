@@ -1,6 +1,5 @@
 -- The frame first, then the stream.
 use borrow.Author.Tests.{eq-eqb, ne-eqb}
-use mathlib.Core.Path.{sym, _∙_}
 use Rattle.lamjhotu.specs.Calls.{idleOf}
 use borrow.Author.Needs.{needs}
 use Rattle.lamjhotu.proofs.calls.idle.Statement.{statement}

@@ -1,5 +1,5 @@
 -- Row 9 in the order of the code, then the next bytes.
-use mathlib.Core.Path.{sym, ap, _∙_}
+use mathlib.Core.Path.{sym, _∙_}
 use borrow.Author.Tests.{not-true, not-false}
 use Rattle.lamjhotu.proofs.Exports.{read-short}
 use Rattle.lamjhotu.proofs.Shorts.{fits-so, fits-lists, fits-not, read-none, read-fit, read-told}

@@ -1,7 +1,5 @@
 -- As many bytes as wait and fit, and the place behind them.
 use native.Mathlib.Omega.{arith}
-use mathlib.Core.Path.{sym, ap, _∙_}
-use Rattle.engine.specs.declared.types.Said.{Said}
 use Rattle.lamjhotu.proofs.Shorts.{said-fit, next-so}
 use borrow.Author.Needs.{needs}
 use Rattle.lamjhotu.proofs.calls.next.Statement.{statement}
