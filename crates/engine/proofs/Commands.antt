@@ -10,6 +10,7 @@ use lib.ListN.{length, take, drop, length-drop}
 use lib.Seq.{length-take-le}
 use Rattle.wire.specs.Bytes.{bytesOf, wordAt, laid}
 use Rattle.storage.specs.declared.types.Store.{Store}
+use Rattle.storage.specs.Open.{blockSizeOf, isNand}
 use Rattle.engine.specs.declared.types.Engine.{Engine}
 use Rattle.engine.specs.declared.types.Ended.the-variants.{Ok, Fail}
 use Rattle.engine.specs.declared.command.Short.{Short}
@@ -17,7 +18,7 @@ use Rattle.engine.specs.declared.command.Short.the-variants as short
 use Rattle.engine.specs.declared.command.Pair.{Pair}
 use Rattle.engine.specs.declared.command.Pair.the-variants.{Cut, Both}
 use Rattle.engine.specs.Reply.{ok, fail, odd, sent, place, Placed, placing}
-use Rattle.engine.specs.Command.{hwinfo, media, geometry, tableText, shortOf, longOf, plainBy, plain, asking, pairOf, inside, readBy, readOf, wroteAs, wroteBy, writeBy, writeOf}
+use Rattle.engine.specs.Command.{hwinfo, media, geometry, tableText, shortBy, shortOf, longBy, longOf, plainBy, plain, asking, pairOf, inside, readBy, readOf, wroteAs, wroteBy, writeBy, writeOf}
 
 -- ---- the lengths of what is laid
 
@@ -70,13 +71,27 @@ table-long (x ∷ t) h = sent-long (x ∷ t) h
 
 -- ---- what the plain commands look at
 
--- the long ones see the store alone
-pub plain-long : (c base burn run : ℕ) (s : Store) (t reply : List ℕ) {x : Short} {p : Placed} → x ≡ shortOf c (asking base burn run s) → x ≡ short.Other
-    → p ≡ placing (longOf c (asking 0 0 0 s) t) reply → p ≡ placing (plain c (asking base burn run s) t) reply
-unfolding plain longOf
-plain-long c base burn run s t reply q r h = h ∙ ap (λ (x : Short). placing (plainBy c (asking base burn run s) t x) reply) (sym r ∙ q)
+module _ (c base burn run : ℕ) (s : Store) (t reply : List ℕ) {block : ℕ} {x : Short} (b : block ≡ blockSizeOf s) (h : x ≡ shortBy c base burn run block) where
+  plain-is : plain c (asking base burn run s) t ≡ plainBy c (asking base burn run s) t x
+  unfolding plain shortOf
+  plain-is = ap (plainBy c (asking base burn run s) t) (sym (h ∙ ap (shortBy c base burn run) b))
 
--- and all of them four parts of the record
+  -- no data
+  pub placed-none : x ≡ short.Empty → place (Ok 0) reply ≡ placing (plain c (asking base burn run s) t) reply
+  placed-none e = rw (plain-is, e, laid-none)
+
+  -- a word
+  pub placed-word : {n : ℕ} {w r : List ℕ} → x ≡ short.Word n → w ≡ bytesOf 4 n → r ≡ laid reply 16 w → place (Ok 4) r ≡ placing (plain c (asking base burn run s) t) reply
+  unfolding bytesOf
+  placed-word e i j = rw (plain-is, e, j, i)
+
+  -- or more, of the store alone
+  pub placed-long : {nand : Bool} {p : Placed} → nand ≡ isNand s → x ≡ short.Other
+      → p ≡ placing (longBy c (s .shape .stage) nand (s .shape .device) (s .shape .capacity) block t) reply → p ≡ placing (plain c (asking base burn run s) t) reply
+  unfolding longOf
+  placed-long i e j = rw (plain-is, e, ← b, ← i) j
+
+-- all of them see four parts of the record
 pub plain-sees : (c : ℕ) (e : Engine) (t : List ℕ) → plain c (asking (e .base) (e .up .burn) (e .up .run) (e .store)) t ≡ plain c e t
 unfolding plain shortOf longOf
 plain-sees c e t = go (shortOf c e)

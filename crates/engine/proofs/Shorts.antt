@@ -15,7 +15,7 @@ use Rattle.engine.specs.declared.types.Ended.{Ended}
 use Rattle.engine.specs.declared.exec.Group.{Group}
 use Rattle.engine.specs.declared.short.Alone.{Alone}
 use Rattle.engine.specs.declared.short.Alone.the-variants.{Other}
-use Rattle.engine.specs.Reply.{place, placing, statusIs, headerIs, lengthIs}
+use Rattle.engine.specs.Reply.{place, Placed, placing, statusIs, headerIs, lengthIs}
 use Rattle.engine.specs.Command.{isQuery, plain}
 use Rattle.engine.specs.Exec.{groupOf}
 use Rattle.engine.specs.Short.{queryIn, aloneBy, aloneOf, Answer, answeredBy, answerOf}
@@ -57,7 +57,13 @@ module _ (s : List ℕ) where
 
 -- ---- what is answered
 
-pub answer-told : (c : ℕ) (e : Engine) (t p : List ℕ) {x : Ended} {q : List ℕ} → place x q ≡ placing (plain c e t) p → {h r : List ℕ} {s n : ℕ}
-    → h ≡ headerIs c x → r ≡ laid q 0 h → s ≡ statusIs x → n ≡ lengthIs x → _≡_ {A = Answer} (record { status = s; len = n; reply = r }) (answerOf c e t p)
-unfolding answerOf
-answer-told c e t p k a b s n = rw (s, n, b, a) (ap (answeredBy c) k)
+module _ (c : ℕ) where
+  -- the header before its data
+  pub header-told : (x : Ended) (q : List ℕ) {h r : List ℕ} {s n : ℕ} → h ≡ headerIs c x → r ≡ laid q 0 h → s ≡ statusIs x → n ≡ lengthIs x
+      → _≡_ {A = Answer} (record { status = s; len = n; reply = r }) (answeredBy c (place x q))
+  header-told x q a b s n = rw (s, n, b, a)
+
+  -- behind data that are the command's
+  pub answer-told : (e : Engine) (t p : List ℕ) {a : Answer} {r : Placed} → r ≡ placing (plain c e t) p → a ≡ answeredBy c r → a ≡ answerOf c e t p
+  unfolding answerOf
+  answer-told e t p h k = k ∙ ap (answeredBy c) h

@@ -35,7 +35,7 @@ use Rattle.engine.specs.declared.shell.Window.{Window}
 use Rattle.engine.specs.declared.shell.Window.the-variants as window
 use Rattle.engine.specs.World.{Given, World, with-up, at-e, at-scratch, devOf, at-dev}
 use Rattle.engine.specs.Reply.{Answer, ok, fail, odd, sent, whether, Ran, ran}
-use Rattle.engine.specs.Command.{tableText, shortOf, longOf, plainBy, plain, pairOf, inside, readBy, readOf, wrote, writeBy, writeOf}
+use Rattle.engine.specs.Command.{tableText, shortOf, longBy, longOf, plainBy, plain, pairOf, inside, readBy, readOf, wrote, writeBy, writeOf}
 use Rattle.engine.specs.Storing.{afterFlush, endUpgrade, probed, crcQuery, readFwcBy, readFwc, erasedBy, eraseStorage, partitionField, foundAt, targetBy, targetOf, aimedAt, answerTo, aims, isMeta, setMeta}
 use Rattle.engine.specs.Running.{runErase, runWrite, runRead, runBoot, runBy, runLine, shellBy, shell}
 use Rattle.engine.specs.Shell.{lineOf, windowOf, textOf}
@@ -97,7 +97,7 @@ text-brief [] = tt
 text-brief (x ∷ xs) = sent-brief (x ∷ xs)
 
 long-brief : (c : ℕ) (w : World) (table : List ℕ) → Brief (longOf c (w .e) table)
-unfolding longOf
+unfolding longBy longOf
 long-brief c w t =
     or-brief (eqb c 0x00) _ _ (omega (arith, hwinfo-length (w .e .store .shape .stage)))
     (or-brief (eqb c 0x16) _ _ (omega (arith, media-length (isNand (w .e .store)) (w .e .store .shape .device)))

@@ -46,25 +46,32 @@ unfoldable pub tableText : List ℕ → Answer
 tableText [] = fail
 tableText (b ∷ s) = sent (b ∷ s)
 
--- the commands that answer with a word of four bytes, or with no data
-unfoldable pub shortOf : ℕ → Engine → Short
-shortOf c e =
-    cond (eqb c 0x08) (Word (e .base))
+-- the commands that answer with a word of four bytes, or with no data, by the numbers that they tell
+unfoldable pub shortBy : ℕ → ℕ → ℕ → ℕ → ℕ → Short
+shortBy c base burn run block =
+    cond (eqb c 0x08) (Word base)
     (cond (eqb c 0x09) Empty
     (cond (eqb c 0x0A) Empty
     (cond (eqb c 0x0C) (Word 0)
-    (cond (eqb c 0x11) (Word (blockSizeOf (e .store)))
-    (cond (eqb c 0x14) (Word (e .up .burn))
-    (cond (eqb c 0x15) (Word (e .up .run))
+    (cond (eqb c 0x11) (Word block)
+    (cond (eqb c 0x14) (Word burn)
+    (cond (eqb c 0x15) (Word run)
     (cond (eqb c 0x19) Empty Other)))))))
 
--- those that answer with more; all other numbers are not known
+unfoldable pub shortOf : ℕ → Engine → Short
+shortOf c e = shortBy c (e .base) (e .up .burn) (e .up .run) (blockSizeOf (e .store))
+
+-- those that answer with more, by what they tell of the device; all other numbers are not known
+unfoldable pub longBy : ℕ → ℕ → Bool → ℕ → ℕ → ℕ → List ℕ → Answer
+longBy c stage nand device capacity block table =
+    cond (eqb c 0x00) (ok (hwinfo stage))
+    (cond (eqb c 0x16) (ok (media nand device))
+    (cond (eqb c 0x17) (tableText table)
+    (cond (eqb c 0x1A) (ok (geometry capacity block)) unsupported)))
+
 unfoldable pub longOf : ℕ → Engine → List ℕ → Answer
 longOf c e table =
-    cond (eqb c 0x00) (ok (hwinfo (e .store .shape .stage)))
-    (cond (eqb c 0x16) (ok (media (isNand (e .store)) (e .store .shape .device)))
-    (cond (eqb c 0x17) (tableText table)
-    (cond (eqb c 0x1A) (ok (geometry (e .store .shape .capacity) (blockSizeOf (e .store)))) unsupported)))
+    longBy c (e .store .shape .stage) (isNand (e .store)) (e .store .shape .device) (e .store .shape .capacity) (blockSizeOf (e .store)) table
 
 -- the commands that touch nothing but the reply
 abbrev pub plainBy : ℕ → Engine → List ℕ → Short → Answer

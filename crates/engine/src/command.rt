@@ -16,7 +16,7 @@ ghost use Prim.Native.Nat.{ℕ};
 ghost use Rattle.engine.specs.World.{world};
 ghost use Rattle.engine.specs.Reply.{place, placing, gone, going};
 ghost use Rattle.engine.specs.Exec.{memory};
-ghost use Rattle.engine.specs.Command.{isQuery, hwinfo, media, geometry, tableText, shortOf, longOf, plain, asking, pairOf, inside, readOf, wroteAs, wroteBy, writeOf};
+ghost use Rattle.engine.specs.Command.{isQuery, hwinfo, media, geometry, tableText, shortBy, longBy, plain, asking, pairOf, inside, readOf, wroteAs, wroteBy, writeOf};
 
 // `is_status_query`: the commands that a host sends just to look at the device.
 pub fn is_query(command: u8) -> bool
@@ -96,23 +96,32 @@ fn table_text(table: &[u8], reply: &mut [u8]) -> Ended
     Ended::Ok(n as u32)
 }
 
-// The commands with more than a word to say. All other numbers are not known.
-fn long(store: Store, command: u8, table: &[u8], reply: &mut [u8]) -> Ended
-    ensures { λ r. ⌜ place r (now (reply .exit)) ≡ placing (longOf command (asking 0 0 0 store) (now (table .entry))) (now (reply .entry)) ⌝ }
+// The commands with more than a word to say, by what they tell of the device. All other numbers are not
+// known.
+pub(crate) fn long(
+    stage: u8,
+    nand: bool,
+    device: u32,
+    capacity: u64,
+    block: u32,
+    command: u8,
+    table: &[u8],
+    reply: &mut [u8],
+) -> Ended
+    ensures { λ r. ⌜ place r (now (reply .exit)) ≡ placing (longBy command stage nand device capacity block (now (table .entry))) (now (reply .entry)) ⌝ }
 {
-    let shape = store.shape;
     match command {
         0x00 => {
-            put(reply, 16, &hwinfo(shape.stage));
+            put(reply, 16, &hwinfo(stage));
             Ended::Ok(108)
         }
         0x16 => {
-            put(reply, 16, &media(is_nand(store), shape.device));
+            put(reply, 16, &media(nand, device));
             Ended::Ok(68)
         }
         0x17 => table_text(table, reply),
         0x1A => {
-            put(reply, 16, &geometry(shape.capacity, block_size(store)));
+            put(reply, 16, &geometry(capacity, block));
             Ended::Ok(24)
         }
         _ => {
@@ -129,16 +138,16 @@ pub enum Short {
     Word(u32),
 }
 
-// The commands with a word or nothing to say.
-fn short_of(base: u32, burn: u32, run: u32, store: Store, command: u8) -> Short
-    ensures { λ r. ⌜ r ≡ shortOf command (asking base burn run store) ⌝ }
+// The commands with a word or nothing to say, by the numbers that they tell.
+pub(crate) fn short_of(base: u32, burn: u32, run: u32, block: u32, command: u8) -> Short
+    ensures { λ r. ⌜ r ≡ shortBy command base burn run block ⌝ }
 {
     match command {
         0x08 => Short::Word(base),
         0x09 => Short::Empty,
         0x0A => Short::Empty,
         0x0C => Short::Word(0),
-        0x11 => Short::Word(block_size(store)),
+        0x11 => Short::Word(block),
         0x14 => Short::Word(burn),
         0x15 => Short::Word(run),
         0x19 => Short::Empty,
@@ -158,13 +167,24 @@ pub(crate) fn plain(
 ) -> Ended
     ensures { λ r. ⌜ place r (now (reply .exit)) ≡ placing (plain command (asking base burn run store) (now (table .entry))) (now (reply .entry)) ⌝ }
 {
-    match short_of(base, burn, run, store, command) {
+    let shape = store.shape;
+    let block = block_size(store);
+    match short_of(base, burn, run, block, command) {
         Short::Empty => Ended::Ok(0),
         Short::Word(x) => {
             put(reply, 16, &le4(x));
             Ended::Ok(4)
         }
-        Short::Other => long(store, command, table, reply),
+        Short::Other => long(
+            shape.stage,
+            is_nand(store),
+            shape.device,
+            shape.capacity,
+            block,
+            command,
+            table,
+            reply,
+        ),
     }
 }
 

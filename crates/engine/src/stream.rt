@@ -23,7 +23,7 @@ ghost use Rattle.engine.specs.Stream.{UpFit, burnBy, taken, fed, burnt, 
 // ---- a piece
 
 // A short storage write sets the burn result to 1.
-fn burn_by(old: u32, count: usize, n: usize) -> u32
+pub fn burn_by(old: u32, count: usize, n: usize) -> u32
     ensures { λ r. ⌜ r ≡ burnBy old count n ⌝ }
 {
     if count == n {

@@ -31,7 +31,7 @@ use Rattle.engine.specs.declared.shell.Window.{Window}
 use Rattle.engine.specs.declared.shell.Window.the-variants as window
 use Rattle.engine.specs.World.{Given, World, with-flags, at-e, devOf, at-dev}
 use Rattle.engine.specs.Reply.{Answer, ok, fail, unsupported, odd, sent, whether, Ran, ran}
-use Rattle.engine.specs.Command.{tableText, shortOf, longOf, plainBy, plain, pairOf, inside, readBy, readOf, Wrote, wrote, writeBy, writeOf}
+use Rattle.engine.specs.Command.{tableText, shortBy, shortOf, longBy, longOf, plainBy, plain, pairOf, inside, readBy, readOf, Wrote, wrote, writeBy, writeOf}
 use Rattle.engine.specs.Storing.{afterFlush, endUpgrade, crcQuery, probed, readFwcBy, readFwc, erasedBy, eraseStorage, partitionField, foundAt, targetBy, targetOf, answerTo, aims, isMeta, setMeta}
 use Rattle.engine.specs.Shell.{textOf, lineOf, windowOf, isReset}
 use Rattle.engine.specs.Running.{runErase, runWrite, runRead, runBoot, runBy, runLine, shellBy, shell}
@@ -289,7 +289,7 @@ module _ (g : Given) (c : ℕ) (bytes : List ℕ) (w : World) where
     Shorts (short.Word x) = Unit {0}
 
     short-says : Shorts (shortOf c (w .e))
-    unfolding shortOf oneOf
+    unfolding shortBy shortOf oneOf
     short-says =
         picked Shorts (eqb c 0x08) _ _ (λ _. tt)
         (λ h₁. picked Shorts (eqb c 0x09) _ _ (λ _. tt)
@@ -301,7 +301,7 @@ module _ (g : Given) (c : ℕ) (bytes : List ℕ) (w : World) where
         (λ h₇. picked Shorts (eqb c 0x19) _ _ (λ _. tt) (λ h₈. rw (h₁, h₂, h₃, h₄, h₅, h₆, h₇, h₈)))))))))
 
     long-says : oneOf ofWord c ≡ false → HasRow (longOf c (w .e) (g .table))
-    unfolding longOf oneOf
+    unfolding longBy longOf oneOf
     long-says k =
         picked HasRow (eqb c 0x00) _ _ (λ _. tt)
         (λ h₁. picked HasRow (eqb c 0x16) _ _ (λ _. tt)

@@ -42,7 +42,7 @@ use Rattle.engine.specs.declared.shell.Window.the-variants as window
 use Rattle.engine.specs.declared.api.Got.the-variants as got
 use Rattle.engine.specs.World.{Given, World, with-said, with-up, with-flags, emptied, at-e, devOf, at-dev, Out, outOf}
 use Rattle.engine.specs.Reply.{Answer, ok, fail, whether, Ran, ran, statusBy, replied, ends}
-use Rattle.engine.specs.Command.{shortOf, longOf, plainBy, plain, pairOf, readOf, writeOf}
+use Rattle.engine.specs.Command.{shortBy, shortOf, longBy, longOf, plainBy, plain, pairOf, readOf, writeOf}
 use Rattle.engine.specs.Storing.{afterFlush, endUpgrade, probed, crcQuery, readFwcBy, readFwc, erasedBy, eraseStorage, aims, isMeta, setMeta}
 use Rattle.engine.specs.Shell.{lineOf, windowOf, textOf, isReset}
 use Rattle.engine.specs.Running.{runErase, runWrite, runRead, runBoot, runBy, runLine, shellBy, shell}
@@ -260,7 +260,7 @@ module _ (g : Given) (s : Said) where
       (pick s B (eqb n 0x13) w (crcQuery l) r (crc-aside s l w) (pick s B (eqb n 0x18) w (readFwc l d) e (fwc-aside s l d w) (erased-aside s l d w))))
 
   plain-aside : (n : ℕ) (w : World) → plain n (at-said s w .e) (g .table) ≡ plain n (w .e) (g .table)
-  unfolding plain shortOf longOf
+  unfolding plain shortBy shortOf longBy longOf
   plain-aside n w = go (shortOf n (w .e))
     where
       go : (x : Short) → plainBy n (at-said s w .e) (g .table) x ≡ plainBy n (w .e) (g .table) x

@@ -29,7 +29,7 @@ use Rattle.storage_laws.specs.Bounds.{either}
 use Rattle.engine.specs.declared.frame.Next.the-variants.{Send}
 use Rattle.engine.specs.World.{Given, World, with-up, at-e, devOf, at-dev, Out, outOf}
 use Rattle.engine.specs.Reply.{Answer, ok, fail, whether, ran, statusBy, replyBy, replied, ends}
-use Rattle.engine.specs.Command.{shortOf, plain}
+use Rattle.engine.specs.Command.{shortBy, shortOf, plain}
 use Rattle.engine.specs.Storing.{probed, crcQuery}
 use Rattle.engine.specs.Exec.{groupOf, storing, runs, begun, answered}
 use Rattle.engine.specs.Stream.{burnBy, fedBy, fed, taken, settledBy, settled, finishes, streamedBy, started, begins}
@@ -312,7 +312,7 @@ module _ (g : Given) (v : World) (f : fits g v ≡ true) (e : v .e .frame ≡ re
       ∙ frame-done g v z (k .head) (k .body) (k .sixteen) (omega (arith, k .most, in-bounds g v f .fit .mid .request)) (number a) (k .status) (k .says) (not-send a) (k .most)
 
   burn-run : (m room : List ℕ) → runs g 0x14 m (asked 0x14 room) ≡ ran (ok (bytesOf 4 (v .e .up .burn))) (asked 0x14 room)
-  unfolding runs groupOf oneOf plain shortOf
+  unfolding runs groupOf oneOf plain shortBy shortOf
   burn-run m room = refl
 
   -- the burn query tells the update's burn

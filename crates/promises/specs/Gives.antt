@@ -18,7 +18,7 @@ use Rattle.storage.specs.Open.{oneOf}
 use Rattle.engine.specs.declared.shell.Line.{Line}
 use Rattle.engine.specs.World.{Given, World}
 use Rattle.engine.specs.Reply.{Answer, fail, unsupported, odd, statusBy, replyBy}
-use Rattle.engine.specs.Command.{tableText, shortOf, longOf, plain, readOf, writeOf}
+use Rattle.engine.specs.Command.{tableText, shortBy, shortOf, longBy, longOf, plain, readOf, writeOf}
 use Rattle.engine.specs.Storing.{endUpgrade, crcQuery, readFwc, eraseStorage, isMeta, setMeta}
 use Rattle.engine.specs.Shell.{lineOf}
 use Rattle.engine.specs.Running.{runBy, shell}
@@ -66,7 +66,7 @@ module _ (g : Given) (c : ℕ) (bytes : List ℕ) (w : World) where
   at-crc = by-number 0x13 fail
 
   at-table : (x : Answer) → tableText (g .table) ≡ x → c ≡ 0x17 → runs g c bytes w .answer ≡ x
-  unfolding runs groupOf oneOf plain shortOf longOf
+  unfolding runs groupOf oneOf plain shortBy shortOf longBy longOf
   at-table = by-number 0x17
 
   at-fwc : Failed (readFwc (g .lent) bytes w) → c ≡ 0x18 → runs g c bytes w .answer ≡ fail
@@ -110,7 +110,7 @@ module _ (g : Given) (c : ℕ) (bytes : List ℕ) (w : World) where
 
   -- "An unsupported command (also 0x01 and 0x0D)": each that 01 does not have
   pub unknown-unsupported : oneOf known c ≡ false → runs g c bytes w .answer ≡ unsupported
-  unfolding runs groupOf oneOf plain shortOf longOf
+  unfolding runs groupOf oneOf plain shortBy shortOf longBy longOf
   unknown-unsupported h =
       let z₁ = or-false (eqb c 0x02) _ h in
       let z₂ = or-false (eqb c 0x03) _ (z₁ .1) in

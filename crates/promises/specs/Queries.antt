@@ -17,7 +17,7 @@ use Rattle.storage_laws.specs.Bounds.{either}
 use Rattle.engine.specs.declared.types.Update.{Update}
 use Rattle.engine.specs.World.{Given, World, at-e, devOf, at-dev, Out}
 use Rattle.engine.specs.Reply.{ok, ran, statusBy, replyBy, replied, ends}
-use Rattle.engine.specs.Command.{shortOf, plain}
+use Rattle.engine.specs.Command.{shortBy, shortOf, plain}
 use Rattle.engine.specs.Storing.{afterFlush, probed, crcQuery}
 use Rattle.engine.specs.Exec.{groupOf, storing, runs, begun, answered}
 use Rattle.engine.specs.Feed.{feeds}
@@ -100,7 +100,7 @@ module _ (g : Given) (v : World) (p c : List ℕ) (u : Updated p c v) (q : Quiet
       )
 
   burn-told : (m room : List ℕ) → (x : World) × Same v x × (runs g 0x14 m (asked 0x14 room) ≡ ran (ok (bytesOf 4 0)) x)
-  unfolding runs groupOf oneOf plain shortOf
+  unfolding runs groupOf oneOf plain shortBy shortOf
   burn-told m room = let x = asked 0x14 room in (x, asked-same 0x14 room, ap (λ (n : ℕ). ran (ok (bytesOf 4 n)) x) (u .burn))
 
   query-told : (a : Question) (m room : List ℕ) → (x : World) × Same v x × (runs g (number a) m (asked (number a) room) ≡ ran (ok (bytesOf 4 (truth p a))) x)

@@ -24,7 +24,7 @@ use Rattle.storage.specs.Store.{good, byGood, flushing, reading}
 use Rattle.storage.specs.Scratch.{inK, intoScratch}
 use Rattle.engine.specs.World.{Given, given, World, world, Out}
 use Rattle.engine.specs.Reply.{sent, statusBy, replyBy, replied, ends}
-use Rattle.engine.specs.Command.{isQuery, shortOf, longOf, plain, pairOf, inside, readOf}
+use Rattle.engine.specs.Command.{isQuery, shortBy, shortOf, longBy, longOf, plain, pairOf, inside, readOf}
 use Rattle.engine.specs.Storing.{crcQuery, probed, partitionField, targetOf, aims, isMeta, setMeta}
 use Rattle.engine.specs.Shell.{textOf, isReset, doneWords, wordOf, withNumber, withId, lineOf, windowOf}
 use Rattle.engine.specs.Running.{runRead, runLine, shell}
@@ -147,5 +147,5 @@ pub data Holds : List Line → Type 0 where
 infixr 40 _&_
 -- THE STATEMENT: the definitions give what 01 says, line by line
 pub twelve : Holds table
-unfolding begins anyOf utf8-1 utf8-2 utf8-3 utf8-4 utf8-char firstOf charLen octets isUtf8 whiteSpace codePoint blankLen lead trimStart keep trimEnd trim digitOf digits some signed isHex numeral numberIn until tokensOf same bytesOf le wordAt _⊕_ shift shifts byteIn crcFrom complement crcUpdate crc32 checksumOf headerOf accepted parsed partsOf parts total partOk all listsOk tableEnd endOf opens.openedNor oneOf norSize scratchOk heldOk inBounds partsFit blockSizeOf failing able over fetched flushes readOut good byGood flushing reading inK intoScratch sent statusBy replyBy replied ends isQuery shortOf longOf plain pairOf inside readOf crcQuery probed partitionField targetOf aims isMeta setMeta textOf isReset doneWords wordOf withNumber withId lineOf windowOf runRead runLine shell groupOf memory storing runs orderOf performs execs stream.begins burnBy fed settled finishes streams nextOf ripens heads fills gathers wantBy turns thenBy goes feeds roomsOk frameOk saidOk upOk engineOk fits openedNor writes reads
+unfolding begins anyOf utf8-1 utf8-2 utf8-3 utf8-4 utf8-char firstOf charLen octets isUtf8 whiteSpace codePoint blankLen lead trimStart keep trimEnd trim digitOf digits some signed isHex numeral numberIn until tokensOf same bytesOf le wordAt _⊕_ shift shifts byteIn crcFrom complement crcUpdate crc32 checksumOf headerOf accepted parsed partsOf parts total partOk all listsOk tableEnd endOf opens.openedNor oneOf norSize scratchOk heldOk inBounds partsFit blockSizeOf failing able over fetched flushes readOut good byGood flushing reading inK intoScratch sent statusBy replyBy replied ends isQuery shortBy shortOf longBy longOf plain pairOf inside readOf crcQuery probed partitionField targetOf aims isMeta setMeta textOf isReset doneWords wordOf withNumber withId lineOf windowOf runRead runLine shell groupOf memory storing runs orderOf performs execs stream.begins burnBy fed settled finishes streams nextOf ripens heads fills gathers wantBy turns thenBy goes feeds roomsOk frameOk saidOk upOk engineOk fits openedNor writes reads
 twelve = refl & refl & refl & refl & refl & refl & refl & refl & refl & refl & refl & refl & none

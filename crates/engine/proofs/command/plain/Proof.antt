@@ -1,10 +1,11 @@
 -- A word, nothing, or one of the longer replies.
-use Rattle.wire.specs.Bytes.{bytesOf}
-use Rattle.engine.proofs.Commands.{laid-none, plain-long}
-use Rattle.engine.specs.Command.{plain}
+use Rattle.engine.proofs.Commands.{placed-none, placed-word, placed-long}
 use borrow.Author.Needs.{needs}
 use Rattle.engine.proofs.command.plain.Statement.{statement}
 use Rattle.engine.proofs.command.plain.Tie as tie
+
+block-size-requires : tie.Need-block-size-requires
+block-size-requires c κs = search needs
 
 short-of-requires : tie.Need-short-of-requires
 short-of-requires c κs = search needs
@@ -27,30 +28,32 @@ put-requires c κs = search needs
 enum-told-2 : tie.Need-enum-told-2
 enum-told-2 c = search needs
 
+is-nand-requires : tie.Need-is-nand-requires
+is-nand-requires c κs = search needs
+
 long-requires : tie.Need-long-requires
 long-requires c κs = search needs
 
 returns : tie.Need-returns
-unfolding plain
-returns c = rw (← c .before .before .short-of .ensures, c .enum-told .given .1, laid-none)
+returns c = placed-none _ _ _ _ _ _ _ (c .before .before .before .block-size .ensures) (c .before .before .short-of .ensures) (c .enum-told .given .1)
 
 same-length : tie.Need-same-length
 same-length c = search needs
 
 returns-2 : tie.Need-returns-2
-unfolding plain bytesOf
-returns-2 c = rw (← c .before .before .before .before .before .before .before .before .before .short-of .ensures, c .before .before .before .before .before .before .before .x .given .1, c .before .before .put .ensures, c .before .before .before .before .le4 .ensures)
+returns-2 c = placed-word _ _ _ _ _ _ _ (c .before .before .before .before .before .before .before .before .before .before .block-size .ensures) (c .before .before .before .before .before .before .before .before .before .short-of .ensures) (c .before .before .before .before .before .before .before .x .given .1) (c .before .before .before .before .le4 .ensures) (c .before .before .put .ensures)
 
 same-length-2 : tie.Need-same-length-2
 same-length-2 c = search needs
 
 returns-3 : tie.Need-returns-3
-returns-3 c = plain-long _ _ _ _ _ _ _ (c .before .before .before .before .before .before .short-of .ensures) (c .before .before .before .before .enum-told2 .given .1) (c .before .before .long .ensures)
+returns-3 c = placed-long _ _ _ _ _ _ _ (c .before .before .before .before .before .before .before .before .block-size .ensures) (c .before .before .before .before .before .before .before .short-of .ensures) (c .before .before .before .before .is-nand .ensures) (c .before .before .before .before .before .enum-told2 .given .1) (c .before .before .long .ensures)
 
 pub plain-spec : {M : Type 1} → statement M
 plain-spec =
     tie.close
     (tie.spec
+    block-size-requires
     short-of-requires
     enum-told
     enum-known-x
@@ -58,6 +61,7 @@ plain-spec =
     slice-aggregate-put
     put-requires
     enum-told-2
+    is-nand-requires
     long-requires
     returns
     same-length
