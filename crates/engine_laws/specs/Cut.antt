@@ -370,7 +370,7 @@ module _ (g : Given) where
   -- ---- within a stream
 
   -- a part of what is left of a stream is one turn
-  within-is : (w : World) (a : List ℕ) → 0 < length a → length a < w .e .up .left → feeds g w a ≡ outOf 0 (fed (g .lent) a w)
+  pub within-is : (w : World) (a : List ℕ) → 0 < length a → length a < w .e .up .left → feeds g w a ≡ outOf 0 (fed (g .lent) a w)
   within-is w a h i =
       let n : w .e .up .left ≡ 0 → ⊥ = λ e. omega arith in
       let s = stream-short g a [] w n i in

@@ -7,3 +7,4 @@ pub mod Cut
 pub mod Front
 pub mod Whole
 pub mod Query
+pub mod Piece

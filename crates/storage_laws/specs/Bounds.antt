@@ -96,6 +96,13 @@ module _ (l : Lent) (d : Dev) (g : good l d ≡ true) where
       chosen (λ (s : Seen). good l (s .told .dev) ≡ true) _ _ _ (λ q. nor-after q (NorOf.readOut (l .faults) off room d .told .dev) (NorKept.readOut-kept (l .faults) off room d))
       (λ q. nand-after q (NandOf.readOut l off room d .told .dev) (NandKept.readOut-kept l d off room))
 
+  -- a write keeps what an opening fixed
+  pub writing-shape : (off : ℕ) (xs : List ℕ) → writing l off xs d .dev .store .shape ≡ d .store .shape
+  unfolding writing
+  writing-shape off xs =
+      chosen (λ (t : Told). t .dev .store .shape ≡ d .store .shape) _ _ _ (λ q. NorKept.written-kept (l .faults) off xs d .shape)
+      (λ q. NandKept.written-kept l d (page-fits q) off xs .shape)
+
 -- ---- moves of scratch
 
 -- what holds of either holds of the one that a test picks
