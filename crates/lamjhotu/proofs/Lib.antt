@@ -2,3 +2,4 @@
 pub mod States
 pub mod Exports
 pub mod Shorts
+pub mod Pieces

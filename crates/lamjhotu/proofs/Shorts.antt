@@ -20,8 +20,7 @@ use Rattle.engine.specs.declared.types.Frame.{Frame}
 use Rattle.engine.specs.declared.types.Said.{Said}
 use Rattle.engine.specs.declared.short.Answered.{Answered}
 use Rattle.storage.specs.declared.types.Store.{Store}
-use Rattle.engine.specs.declared.short.Alone.{Alone}
-use Rattle.engine.specs.declared.short.Alone.the-variants.{Other, Query}
+use Rattle.engine.specs.declared.short.Alone.the-variants.{Query}
 use Rattle.engine.specs.World.{Given, World, world, with-said, devOf}
 use Rattle.engine.specs.Reply.{statusIs, placing}
 use Rattle.engine.specs.Reply as said
@@ -33,9 +32,7 @@ use Rattle.engine.proofs.Commands.{plain-sees}
 use Rattle.engine.proofs.Apis.{world-fit}
 use Rattle.engine_laws.specs.Query.{query-alone}
 use Rattle.lamjhotu.specs.State.{setOf, frameAt, saidAt, updateAt, shapeAt, storeAt, unpackOf}
-use Rattle.lamjhotu.specs.declared.calls.Quick.{Quick}
-use Rattle.lamjhotu.specs.declared.calls.Quick.the-variants.{No, Done}
-use Rattle.lamjhotu.specs.Calls.{kept, Wrote, wrote, wroteBy, writesIn, Took, took, readsIn, fitsBut, idleOf, Asked, asks, asked, Quickly, quickly, doneBy, quickBy, quickOf, nextBy}
+use Rattle.lamjhotu.specs.Calls.{kept, wrote, wroteBy, writesIn, Took, took, readsIn, fitsBut, idleOf, Asked, asks, asked, nextBy}
 use Rattle.lamjhotu.specs.CallLaws.{write-refused, read-refused}
 use Rattle.lamjhotu.proofs.Exports.{yes}
 
@@ -214,75 +211,6 @@ module _ (g : Given) (s q p c b x : List ℕ) (f : fits g (world (unpackOf s) q 
 
   pub read-none : (room : List ℕ) → took (2 ^ 32 - 1) s room ≡ readsIn g s q p c b x room
   read-none room = sym (read-refused g s q p c b x f room)
-
--- ---- whether a write is done at once
-
-abbrev isDone : Quick → Bool
-isDone No = false
-isDone (Done n) = true
-
-abbrev numberIn : Quick → ℕ
-numberIn No = 0
-numberIn (Done n) = n
-
-module _ (g : Given) (s q p c b x d : List ℕ) where
-  pub quick-other : aloneOf d ≡ Other → quickly No s q p ≡ quickOf g s q p c b x d
-  unfolding quickOf
-  quick-other h = ap (quickBy g s q p c b x d) (sym h)
-
-  pub quick-refused : {k : ℕ} → aloneOf d ≡ Query k → fits g (world (unpackOf s) q p c b x) ≡ false → quickly (Done 9) s q p ≡ quickOf g s q p c b x d
-  unfolding quickOf
-  quick-refused h f = rw (h, f)
-
-  pub quick-busy : {k : ℕ} → aloneOf d ≡ Query k → fits g (world (unpackOf s) q p c b x) ≡ true → idleOf s ≡ false → quickly No s q p ≡ quickOf g s q p c b x d
-  unfolding quickOf
-  quick-busy h f i = rw (h, f, i)
-
-  pub quick-asked : {k n : ℕ} {t u v : List ℕ} → aloneOf d ≡ Query k → fits g (world (unpackOf s) q p c b x) ≡ true → idleOf s ≡ true
-      → asks n t u v ≡ asked s q d (answerOf k (unpackOf s) (g .table) p) → quickly (Done n) t u v ≡ quickOf g s q p c b x d
-  unfolding quickOf
-  quick-asked h f i r = rw (h, f, i) (ap doneBy r)
-
-  -- what is done at once is the write
-  pub quick-done : {r : Quick} {n : ℕ} {t u v : List ℕ} → 652 ≤ length s → r ≡ Done n → quickly r t u v ≡ quickOf g s q p c b x d
-      → wrote n t u v c b x ≡ writesIn g s q p c b x d
-  unfolding quickOf
-  quick-done {n = n} {t} {u} {v} l e h = go (aloneOf d) refl (ap (λ (z : Quick). quickly z t u v) (sym e) ∙ h)
-    where
-      was : Quickly → Wrote
-      was z = wrote (numberIn (z .quick)) (z .state) (z .request) (z .reply) c b x
-
-      here : (k : ℕ) (f i : Bool) → aloneOf d ≡ Query k → fits g (world (unpackOf s) q p c b x) ≡ f → idleOf s ≡ i
-          → quickly (Done n) t u v ≡ cond f (cond i (doneBy (asked s q d (answerOf k (unpackOf s) (g .table) p))) (quickly No s q p)) (quickly (Done 9) s q p)
-          → wrote n t u v c b x ≡ writesIn g s q p c b x d
-      here k true true a f i h = ap was h ∙ query-told g s q p c b x f i d l a refl
-      here k true false a f i h = absurd (true-not-false (ap (λ (z : Quickly). isDone (z .quick)) h))
-      here k false i a f j h = ap was h ∙ write-none g s q p c b x f d
-
-      go : (a : Alone) → aloneOf d ≡ a → quickly (Done n) t u v ≡ quickBy g s q p c b x d a → wrote n t u v c b x ≡ writesIn g s q p c b x d
-      go Other a h = absurd (true-not-false (ap (λ (z : Quickly). isDone (z .quick)) h))
-      go (Query k) a h = here k (fits g (world (unpackOf s) q p c b x)) (idleOf s) a refl refl h
-
-  -- what is not done at once has changed nothing
-  pub quick-left : {r : Quick} {t u v : List ℕ} → r ≡ No → quickly r t u v ≡ quickOf g s q p c b x d → quickly No t u v ≡ quickly No s q p
-  unfolding quickOf
-  quick-left {t = t} {u} {v} e h = go (aloneOf d) (ap (λ (z : Quick). quickly z t u v) (sym e) ∙ h)
-    where
-      here : (k : ℕ) (f i : Bool)
-          → quickly No t u v ≡ cond f (cond i (doneBy (asked s q d (answerOf k (unpackOf s) (g .table) p))) (quickly No s q p)) (quickly (Done 9) s q p)
-          → quickly No t u v ≡ quickly No s q p
-      here k true true h = absurd (true-not-false (sym (ap (λ (z : Quickly). isDone (z .quick)) h)))
-      here k true false h = h
-      here k false i h = absurd (true-not-false (sym (ap (λ (z : Quickly). isDone (z .quick)) h)))
-
-      go : (a : Alone) → quickly No t u v ≡ quickBy g s q p c b x d a → quickly No t u v ≡ quickly No s q p
-      go Other h = h
-      go (Query k) h = here k (fits g (world (unpackOf s) q p c b x)) (idleOf s) h
-
-  -- and the whole write is made of it
-  pub quick-then : {n : ℕ} {t u v y m r w z o : List ℕ} → quickly No t u v ≡ quickly No s q p → wrote n y m r w z o ≡ writesIn g t u v c b x d
-      → wrote n y m r w z o ≡ writesIn g s q p c b x d
-  quick-then h i = i ∙ ap (λ (z : Quickly). writesIn g (z .state) (z .request) (z .reply) c b x d) h
 
 -- ---- a read
 

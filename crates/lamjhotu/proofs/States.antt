@@ -1,19 +1,20 @@
 -- The record's bytes as the code lays and reads them.
-use mathlib.Core.Path.{_≡_, sym, ap, _∙_}
-use mathlib.Core.Bool.{Bool, cond}
+use mathlib.Core.Path.{_≡_, refl, sym, ap, _∙_}
+use mathlib.Core.Bool.{Bool}
 use mathlib.Core.List.{List, [], _∷_, _++_}
-use Prim.Native.Nat.{ℕ, suc, _+_, _*_, _≤_}
+use Prim.Native.Nat.{ℕ, _+_, _*_, _≤_}
 use native.Mathlib.Nat.{add-zero}
 use native.Mathlib.Omega.{arith}
-use borrow.Author.Tests.{le-leb}
-use lib.ListN.{length, set, getD, drop, length-append}
-use lib.Seq.{sets, length-sets, getD-drop}
+use lib.ListN.{length, set, getD, drop, length-set}
+use lib.Seq.{getD-drop}
 use Rattle.wire.specs.Bytes.{bytesOf, wordAt, laid}
 use Rattle.wire.proofs.Words.{four}
+use Rattle.storage.specs.declared.types.Store.{Store}
 use Rattle.engine.specs.declared.types.Engine.{Engine}
 use Rattle.engine.specs.World.{with-said}
-use Rattle.lamjhotu.specs.State.{blockOver, fourOf, wordsOver, smallsOf, marksOver, packOver, unpackOf}
+use Rattle.lamjhotu.specs.State.{markOver, isBlock, blockOver, fourOf, wordsOver, smallsOf, marksOver, packOver, shapeAt, unpackOf, counted}
 use Rattle.lamjhotu.specs.StateLaws.{Bytes, pack-said}
+use Rattle.lamjhotu.specs.PieceLaws.{laid-fit, skip, pack-counted}
 
 -- ---- a word from its bytes
 
@@ -29,28 +30,15 @@ low-told s at h i j k = rw (h, i, j, k) (four-at s at)
 
 -- ---- one piece behind another
 
-sets-then : (xs ys s : List ℕ) (i : ℕ) → sets (sets s i xs) (i + length xs) ys ≡ sets s i (xs ++ ys)
-sets-then [] ys s i = ap (λ (k : ℕ). sets s k ys) (add-zero i)
-sets-then (x ∷ xs) ys s i =
-    let k : i + suc (length xs) ≡ suc i + length xs = omega arith in
-    ap (λ (k : ℕ). sets (sets (set s i x) (suc i) xs) k ys) k ∙ sets-then xs ys (set s i x) (suc i)
-
-laid-fit : (s : List ℕ) (at : ℕ) (xs : List ℕ) → at + length xs ≤ length s → laid s at xs ≡ sets s at xs
-unfolding laid
-laid-fit s at xs h = ap (λ (t : Bool). cond t (sets s at xs) s) (le-leb (at + length xs) (length s) h)
-
 -- ys laid right behind xs
 pub behind : (s : List ℕ) (at : ℕ) (xs ys : List ℕ) {p q : List ℕ} → at + (length xs + length ys) ≤ length s → p ≡ laid s at xs → q ≡ laid p (at + length xs) ys
     → q ≡ laid s at (xs ++ ys)
 behind s at xs ys h a b =
-    let h₁ : at + length xs ≤ length s = omega arith in
-    let h₂ : at + length (xs ++ ys) ≤ length s = omega (arith, length-append xs ys) in
-    let h₃ : at + length xs + length ys ≤ length (sets s at xs) = omega (arith, length-sets s at xs) in
+    let k : ℕ = at + length xs in
     b
-    ∙ ap (λ (l : List ℕ). laid l (at + length xs) ys) (a ∙ laid-fit s at xs h₁)
-    ∙ laid-fit (sets s at xs) (at + length xs) ys h₃
-    ∙ sets-then xs ys s at
-    ∙ sym (laid-fit s at (xs ++ ys) h₂)
+    ∙ ap (λ (l : List ℕ). laid l k ys) a
+    ∙ ap (λ (k : ℕ). laid (laid s at xs) k ys) (sym (add-zero k))
+    ∙ sym (skip s at xs [] refl ys (omega arith))
 
 -- ---- four numbers, the twenty, and the whole
 
@@ -109,3 +97,29 @@ pub said-told : (s : List ℕ) (l p : ℕ) {q r : List ℕ} → 652 ≤ length s
     → r ≡ laid s 0 (packOver s (with-said (record { len = l; pos = p }) (unpackOf s)))
 unfolding bytesOf
 said-told s l p h b i j = behind s 16 (bytesOf 8 l) (bytesOf 8 p) (omega arith) i j ∙ sym (pack-said s b h l p)
+
+-- ---- a piece of a stream counted
+
+pub two-told : (s : List ℕ) (at a b : ℕ) {p q : List ℕ} → at + 16 ≤ length s → p ≡ laid s at (bytesOf 8 a) → q ≡ laid p (at + 8) (bytesOf 8 b)
+    → q ≡ laid s at (bytesOf 8 a ++ bytesOf 8 b)
+unfolding bytesOf
+two-told s at a b h i j = behind s at (bytesOf 8 a) (bytesOf 8 b) h i j
+
+pub moves-told : (s : List ℕ) (a b c d e : ℕ) {p q r t : List ℕ} → 652 ≤ length s → p ≡ laid s 88 (bytesOf 8 a ++ bytesOf 8 b) → q ≡ laid p 104 (bytesOf 8 c)
+    → r ≡ laid q 112 (bytesOf 4 d) → t ≡ laid r 116 (bytesOf 4 e) → t ≡ laid s 88 (bytesOf 8 a ++ (bytesOf 8 b ++ (bytesOf 8 c ++ (bytesOf 4 d ++ bytesOf 4 e))))
+unfolding bytesOf
+moves-told s a b c d e h i j k l =
+    let x : List ℕ = bytesOf 8 a ++ bytesOf 8 b in
+    let y : List ℕ = bytesOf 8 c in
+    let z : List ℕ = bytesOf 4 d in
+    behind s 88 (x ++ (y ++ z)) (bytesOf 4 e) (omega arith) (behind s 88 (x ++ y) z (omega arith) (behind s 88 x y (omega arith) i j) k) l
+
+-- the store's numbers and marks over those that stand there, and two bytes set behind them
+pub counted-told : (s : List ℕ) (w l c n : ℕ) (t : Store) {o k x y : ℕ} {z : Bool} {p q : List ℕ} → (652 ≤ length s) × (t .shape ≡ shapeAt s) → Bytes s → o ≡ wordAt 8 s 96 → k ≡ blockOver o (t .erased)
+    → x ≡ markOver (getD s 137 0) (t .held) → z ≡ isBlock (t .erased) → y ≡ markOver (getD s 139 0) z → p ≡ laid s 40 (bytesOf 8 w ++ bytesOf 8 l)
+    → q ≡ laid p 88 (bytesOf 8 (t .at) ++ (bytesOf 8 k ++ (bytesOf 8 (t .calls) ++ (bytesOf 4 c ++ bytesOf 4 n)))) → 652 ≤ length q
+    → set (set q 137 x) 139 y ≡ laid s 0 (packOver s (counted w l c n t (unpackOf s)))
+counted-told s w l c n t {x = x} {y} {q = q} h b d e f g i j m u =
+    sym (laid-fit (set q 137 x) 139 (y ∷ []) (rw length-set (omega arith)))
+    ∙ ap (λ (r : List ℕ). laid r 139 (y ∷ [])) (sym (laid-fit q 137 (x ∷ []) (omega arith)))
+    ∙ rw (m, j, f, i, g, e, d) (sym (pack-counted s b (h .0) w l c n t (h .1)))

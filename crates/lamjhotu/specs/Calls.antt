@@ -1,24 +1,27 @@
 -- The exported calls: the engine's own, on a record that lies in bytes (01, 'Replies and refusals', row 9).
-use mathlib.Core.Bool.{Bool, true, false, _&&_, cond}
+use mathlib.Core.Bool.{Bool, _&&_, cond}
 use mathlib.Core.List.{List}
 use Prim.Native.Nat.{ℕ, _+_, _-_, _^_, min}
-use lib.Dec.{leb, eqb}
+use lib.Dec.{leb, ltb, eqb}
 use lib.ListN.{length, replicate, take, drop}
 use lib.Seq.{sets}
 use Rattle.wire.specs.Bytes.{wordAt, laid}
+use Rattle.storage.specs.World as storage
 use Rattle.storage.specs.Open.{inBounds, partsFit, scratchOk}
 use Rattle.engine.specs.declared.types.Engine.{Engine}
 use Rattle.engine.specs.declared.api.Opening.{Opening}
 use Rattle.engine.specs.declared.api.Got.{Got}
 use Rattle.engine.specs.declared.api.Got.the-variants as got
-use Rattle.engine.specs.World.{Given, World, world, with-said, Out}
-use Rattle.engine.specs.Api.{roomsOk, engineOk, fits, writes, Read, reads, cleared}
-use Rattle.engine.specs.Short.{Answer, aloneOf, answerOf}
+use Rattle.engine.specs.World.{Given, world, with-said, with-up, with-store, Out}
+use Rattle.engine.specs.Api.{roomsOk, engineOk, writes, Read, reads, cleared}
+use Rattle.engine.specs.Stream.{taken}
+use Rattle.engine.specs.Short.{Answer, aloneOf}
 use Rattle.engine.specs.declared.short.Alone.{Alone}
-use Rattle.engine.specs.declared.short.Alone.the-variants.{Other, Query}
-use Rattle.lamjhotu.specs.declared.calls.Quick.{Quick}
-use Rattle.lamjhotu.specs.declared.calls.Quick.the-variants.{No, Done}
-use Rattle.lamjhotu.specs.State.{flagOf, packOver, unpackOf}
+use Rattle.engine.specs.declared.short.Alone.the-variants.{Other}
+use Rattle.engine.specs.declared.short.Alone.the-variants as alone
+use Rattle.lamjhotu.specs.declared.quick.Way.{Way}
+use Rattle.lamjhotu.specs.declared.quick.Way.the-variants.{Query, Piece, Whole}
+use Rattle.lamjhotu.specs.State.{flagOf, packOver, updateAt, unpackOf}
 
 -- what a call answers, and the bytes of the state
 pub record Told : Type 0 where
@@ -136,28 +139,31 @@ asks n s q p = record { number = n; state = s; request = q; reply = p }
 abbrev pub asked : List ℕ → List ℕ → List ℕ → Answer → Asked
 asked s q bytes a = asks (a .status) (kept s (with-said (record { len = a .len; pos = 0 }) (unpackOf s))) (laid q 0 bytes) (a .reply)
 
--- whether a write was such a query and is done, the state and the two rooms
-pub record Quickly : Type 0 where
-  pub quick : Quick
+-- what a piece of a stream leaves: the state, the chip and the buffer
+pub record Pieced : Type 0 where
   pub state : List ℕ
-  pub request : List ℕ
-  pub reply : List ℕ
+  pub chip : List ℕ
+  pub buffer : List ℕ
 
-abbrev pub quickly : Quick → List ℕ → List ℕ → List ℕ → Quickly
-quickly r s q p = record { quick = r; state = s; request = q; reply = p }
+abbrev pub pieced : List ℕ → List ℕ → List ℕ → Pieced
+pieced s c b = record { state = s; chip = c; buffer = b }
 
-abbrev pub doneBy : Asked → Quickly
-doneBy a = quickly (Done (a .number)) (a .state) (a .request) (a .reply)
+-- the piece is counted, by what the storage was told of it
+abbrev pub pieceBy : List ℕ → List ℕ → storage.Told → Pieced
+pieceBy s bytes t =
+    pieced (kept s (with-up (taken bytes (t .count) (updateAt s)) (with-store (t .dev .store) (unpackOf s)))) (t .dev .chip) (t .dev .buf)
 
-abbrev pub quickBy : Given → List ℕ → List ℕ → List ℕ → List ℕ → List ℕ → List ℕ → List ℕ → Alone → Quickly
-quickBy g s q p c b x bytes Other = quickly No s q p
-quickBy g s q p c b x bytes (Query k) =
-    cond (fits g (world (unpackOf s) q p c b x))
-    (cond (idleOf s) (doneBy (asked s q bytes (answerOf k (unpackOf s) (g .table) p))) (quickly No s q p))
-    (quickly (Done 9) s q p)
+-- bytes that do not end the stream they belong to
+unfoldable pub pieceIn : List ℕ → List ℕ → Bool
+pieceIn s bytes = ltb 0 (length bytes) && ltb (length bytes) (wordAt 8 s 48)
 
-unfoldable pub quickOf : Given → List ℕ → List ℕ → List ℕ → List ℕ → List ℕ → List ℕ → List ℕ → Quickly
-quickOf g s q p c b x bytes = quickBy g s q p c b x bytes (aloneOf bytes)
+-- what a write is to an engine in bounds
+abbrev pub wayBy : Alone → Way
+wayBy Other = Whole
+wayBy (alone.Query c) = Query c
+
+unfoldable pub wayOf : List ℕ → List ℕ → Way
+wayOf s bytes = cond (pieceIn s bytes) Piece (cond (idleOf s) (wayBy (aloneOf bytes)) Whole)
 
 -- the next bytes of the reply
 abbrev pub nextOf : List ℕ → List ℕ → List ℕ → ℕ → Took

@@ -16,6 +16,7 @@ use Rattle.engine.specs.declared.types.Engine.{Engine}
 use Rattle.engine.specs.declared.types.Frame.{Frame}
 use Rattle.engine.specs.declared.types.Said.{Said}
 use Rattle.engine.specs.declared.types.Update.{Update}
+use Rattle.engine.specs.World.{with-up, with-store}
 
 -- ---- from a record to bytes
 
@@ -141,3 +142,12 @@ saidAt s = record { len = wordAt 8 s 16; pos = wordAt 8 s 24 }
 unfoldable pub unpackOf : List ℕ → Engine
 unpackOf s =
     record { frame = frameAt s; said = saidAt s; up = updateAt s; upgrading = setAt s 135; asked = setAt s 136; base = wordAt 4 s 124; store = storeAt s }
+
+-- ---- a record changed
+
+-- the record with a piece of a stream counted, and the store that it left
+abbrev pub counted : ℕ → ℕ → ℕ → ℕ → Store → Engine → Engine
+counted written left crc burn t e =
+    with-up
+    (record { meta = e .up .meta; valid = e .up .valid; aimed = e .up .aimed; target = e .up .target; written = written; crc = crc; burn = burn; run = e .up .run; left = left })
+    (with-store t e)

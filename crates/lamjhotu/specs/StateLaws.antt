@@ -9,7 +9,7 @@ use native.Mathlib.Omega.{arith}
 use borrow.Author.Tests.{eqb-true}
 use lib.Dec.{eqb, lit<}
 use lib.ListN.{length, getD, take, drop, length-append, length-take, length-drop, take-append-drop}
-use lib.Seq.{take-at, take-add, drop-drop, getD-drop}
+use lib.Seq.{take-at, take-add, drop-cons, drop-drop, getD-drop}
 use Rattle.wire.specs.Bytes.{bytesOf, le, wordAt, laid}
 use Rattle.wire.proofs.Copies.{laid-fits}
 use Rattle.wire.proofs.Words.{le-bytesOf}
@@ -182,7 +182,7 @@ mark-same old = go (eqb old 0) refl
     go true h = sym (eqb-true old 0 h)
     go false h = refl
 
-kind-same : (b : Bool) → isNor (kindOf b) ≡ b
+pub kind-same : (b : Bool) → isNor (kindOf b) ≡ b
 kind-same true = refl
 kind-same false = refl
 
@@ -194,30 +194,17 @@ number-same : (b : Bool) (n : ℕ) → blockOver n (erasedOf b n) ≡ n
 number-same true n = refl
 number-same false n = refl
 
--- eight bytes one by one
-eight : (s : List ℕ) → 8 ≤ length s
-    → getD s 0 0 ∷ getD s 1 0 ∷ getD s 2 0 ∷ getD s 3 0 ∷ getD s 4 0 ∷ getD s 5 0 ∷ getD s 6 0 ∷ getD s 7 0 ∷ [] ≡ take 8 s
-eight [] l = absurd (omega arith)
-eight (a ∷ []) l = absurd (omega arith)
-eight (a ∷ b ∷ []) l = absurd (omega arith)
-eight (a ∷ b ∷ c ∷ []) l = absurd (omega arith)
-eight (a ∷ b ∷ c ∷ d ∷ []) l = absurd (omega arith)
-eight (a ∷ b ∷ c ∷ d ∷ e ∷ []) l = absurd (omega arith)
-eight (a ∷ b ∷ c ∷ d ∷ e ∷ f ∷ []) l = absurd (omega arith)
-eight (a ∷ b ∷ c ∷ d ∷ e ∷ f ∷ g ∷ []) l = absurd (omega arith)
-eight (a ∷ b ∷ c ∷ d ∷ e ∷ f ∷ g ∷ h ∷ s) l = refl
-
 module _ (s : List ℕ) (b : Bytes s) (h : 652 ≤ length s) where
   -- a number's bytes where it was read
-  piece : (n at : ℕ) → at + n ≤ 652 → bytesOf n (wordAt n s at) ≡ take n (drop at s)
+  pub piece : (n at : ℕ) → at + n ≤ 652 → bytesOf n (wordAt n s at) ≡ take n (drop at s)
   unfolding wordAt
   piece n at i = le-back n (drop at s) (drop-bytes at s b) (rw length-drop (omega arith))
 
   -- a part of the state and the part behind it
-  on : (n m at : ℕ) {k : ℕ} {p q : List ℕ} → k ≡ at + n → p ≡ take n (drop at s) → q ≡ take m (drop k s) → p ++ q ≡ take (n + m) (drop at s)
+  pub on : (n m at : ℕ) {k : ℕ} {p q : List ℕ} → k ≡ at + n → p ≡ take n (drop at s) → q ≡ take m (drop k s) → p ++ q ≡ take (n + m) (drop at s)
   on n m at i j l = ap₂ (λ (x y : List ℕ). x ++ y) j (l ∙ ap (λ (k : ℕ). take m (drop k s)) i ∙ ap (take m) (sym (drop-drop n at s))) ∙ sym (take-add n m (drop at s))
 
-  fours : (at : ℕ) → at + 32 ≤ 652 → fourOf (wordAt 8 s at) (wordAt 8 s (at + 8)) (wordAt 8 s (at + 16)) (wordAt 8 s (at + 24)) ≡ take 32 (drop at s)
+  pub fours : (at : ℕ) → at + 32 ≤ 652 → fourOf (wordAt 8 s at) (wordAt 8 s (at + 8)) (wordAt 8 s (at + 16)) (wordAt 8 s (at + 24)) ≡ take 32 (drop at s)
   unfolding fourOf
   fours at i =
       on 8 24 at refl (piece 8 at (omega arith))
@@ -245,29 +232,23 @@ module _ (s : List ℕ) (b : Bytes s) (h : 652 ≤ length s) where
       (on 4 12 116 refl (piece 4 116 (omega arith))
       (on 4 8 120 refl (piece 4 120 (omega arith)) (on 4 4 124 refl (piece 4 124 (omega arith)) (piece 4 128 (omega arith)))))
 
+  -- a byte alone, and a mark over the byte that it was read from
+  pub one : (k : ℕ) → k < 652 → getD s k 0 ∷ [] ≡ take 1 (drop k s)
+  one k i = sym (ap (take 1) (drop-cons s k 0 (omega arith)))
+
+  pub marked : (k : ℕ) {m : Bool} → k < 652 → m ≡ setOf (getD s k 0) → markOver (getD s k 0) m ∷ [] ≡ take 1 (drop k s)
+  marked k i e = ap (λ (m : Bool). markOver (getD s k 0) m ∷ []) e ∙ ap (λ (x : ℕ). x ∷ []) (mark-same (getD s k 0)) ∙ one k i
+
   marks-same : marksOver s (unpackOf s) ≡ take 8 (drop 132 s)
   unfolding marksOver unpackOf updateAt storeAt shapeAt
   marks-same =
-      rw (
-        kind-same (setOf (getD s 138 0)),
-        block-same (setOf (getD s 139 0)) (wordAt 8 s 96),
-        mark-same (getD s 133 0),
-        mark-same (getD s 134 0),
-        mark-same (getD s 135 0),
-        mark-same (getD s 136 0),
-        mark-same (getD s 137 0),
-        mark-same (getD s 138 0),
-        mark-same (getD s 139 0),
-        ← getD-drop 132 s 0 0,
-        ← getD-drop 132 s 1 0,
-        ← getD-drop 132 s 2 0,
-        ← getD-drop 132 s 3 0,
-        ← getD-drop 132 s 4 0,
-        ← getD-drop 132 s 5 0,
-        ← getD-drop 132 s 6 0,
-        ← getD-drop 132 s 7 0,
-      )
-      (eight (drop 132 s) (rw length-drop (omega arith)))
+      on 1 7 132 refl (one 132 (omega arith))
+      (on 1 6 133 refl (marked 133 (omega arith) refl)
+      (on 1 5 134 refl (marked 134 (omega arith) refl)
+      (on 1 4 135 refl (marked 135 (omega arith) refl)
+      (on 1 3 136 refl (marked 136 (omega arith) refl)
+      (on 1 2 137 refl (marked 137 (omega arith) refl)
+      (on 1 1 138 refl (marked 138 (omega arith) (kind-same (setOf (getD s 138 0)))) (marked 139 (omega arith) (block-same (setOf (getD s 139 0)) (wordAt 8 s 96)))))))))
 
   -- all behind the place in the reply
   behind-same : numbers ++ (smallsOf (unpackOf s) ++ (marksOver s (unpackOf s) ++ metaAt s)) ≡ take 620 (drop 32 s)
@@ -296,7 +277,7 @@ module _ (s : List ℕ) (b : Bytes s) (h : 652 ≤ length s) where
       ∙ ap (λ (z : List ℕ). z ++ (w ++ t)) before-same
 
   -- bytes laid with what stands before and behind them
-  over : (a m : ℕ) (xs : List ℕ) → a + length xs + m ≤ length s → laid s 0 (take a s ++ (xs ++ take m (drop (a + length xs) s))) ≡ laid s a xs
+  pub over : (a m : ℕ) (xs : List ℕ) → a + length xs + m ≤ length s → laid s 0 (take a s ++ (xs ++ take m (drop (a + length xs) s))) ≡ laid s a xs
   over a m xs i =
       let k : ℕ = a + length xs in
       let t : List ℕ = take m (drop k s) in

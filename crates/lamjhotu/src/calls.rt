@@ -1,7 +1,12 @@
 // The exported calls. Each unpacks the record from `state`, makes one call of the engine, and packs
-// the record again; a read, and a write that is one short query, work on the state's bytes themselves.
+// the record again; a read, and a write that is one short query or a piece of a stream, work on the
+// state's bytes themselves.
 // None asks anything of its caller: a state of under 652 bytes is refused, as the
 // engine refuses what is out of bounds, and a refused call changes nothing.
+use crate::quick::Way;
+use crate::quick::ask;
+use crate::quick::piece;
+use crate::quick::way_of;
 use crate::state::flag;
 use crate::state::frame_at;
 use crate::state::pack;
@@ -20,9 +25,6 @@ use engine::api::numbers_ok;
 use engine::api::open_nand;
 use engine::api::open_nor;
 use engine::api::write;
-use engine::short::Alone;
-use engine::short::alone_of;
-use engine::short::answer;
 use engine::types::Engine;
 use storage::open::fits;
 use storage::open::nor_fits;
@@ -42,9 +44,8 @@ ghost use Rattle.storage.specs.Open.{inBounds, partsFit};
 ghost use Rattle.engine.specs.World.{given, world};
 ghost use Rattle.engine.specs.Api.{openedNor, openedNand};
 ghost use Rattle.engine.specs.Feed.{SaidFit};
-ghost use Rattle.engine.specs.Short.{answerOf};
 ghost use Rattle.lamjhotu.specs.State.{storeAt, saidAt, unpackOf};
-ghost use Rattle.lamjhotu.specs.Calls.{told, resets, upgradingOf, askedOf, openBy, opens, savedBy, wrote, writesIn, took, readsIn, fitsBut, idleOf, asks, asked, quickly, quickOf, nextBy};
+ghost use Rattle.lamjhotu.specs.Calls.{told, resets, upgradingOf, askedOf, openBy, opens, savedBy, wrote, writesIn, took, readsIn, fitsBut, nextBy};
 
 // A refused read.
 const NONE: u32 = 0xFFFF_FFFF;
@@ -217,18 +218,6 @@ fn fits_in(
     store_fits(s, chip, marks, buffer)
 }
 
-// Is an engine in bounds between frames, with no stream open: then all three numbers are 0.
-fn idle(s: &[u8]) -> bool
-    requires { ⌜ 652 ≤ length (now s) ⌝ }
-    ensures { λ r. ⌜ r ≡ idleOf (now (s .entry)) ⌝ }
-{
-    let total = word_at(s, 8);
-    if word_at(s, 0) != total {
-        return false;
-    }
-    word_at(s, 48) == total
-}
-
 // ---- write
 
 // The record of a write is packed, but where it was refused.
@@ -282,82 +271,6 @@ fn write_whole(
     saved(state, d.status, e)
 }
 
-// A query alone is answered from the state's bytes: the reply's place is all that changes in them.
-fn ask(
-    state: &mut [u8],
-    request: &mut [u8],
-    table: &[u8],
-    reply: &mut [u8],
-    bytes: &[u8],
-    command: u8,
-) -> u8
-    requires { ⌜ 652 ≤ length (now state) ⌝ }
-    ensures { λ r. ⌜ asks r (now (state .exit)) (now (request .exit)) (now (reply .exit)) ≡ asked (now (state .entry)) (now (request .entry)) (now (bytes .entry)) (answerOf command (unpackOf (now (state .entry))) (now (table .entry)) (now (reply .entry))) ⌝ }
-{
-    let store = store_at(state);
-    let a = answer(
-        small_at(state, 124),
-        small_at(state, 116),
-        small_at(state, 120),
-        store,
-        command,
-        table,
-        reply,
-    );
-    put(request, 0, bytes);
-    tell(state, a.len as u64, 0);
-    a.status
-}
-
-// Whether a write was one short query and is done, with its status, or is still to be made.
-pub enum Quick {
-    No,
-    Done(u8),
-}
-
-// A status query alone, to an engine between frames, is answered; nothing is done where the write is
-// anything else.
-fn at_once(
-    state: &mut [u8],
-    request: &mut [u8],
-    marks: &[u8],
-    offsets: &[u64],
-    sizes: &[u64],
-    lens: &[u64],
-    names: &[u8],
-    table: &[u8],
-    chip: &[u8],
-    buffer: &[u8],
-    scratch: &[u8],
-    reply: &mut [u8],
-    bytes: &[u8],
-) -> Quick
-    requires { ⌜ 652 ≤ length (now state) ⌝ }
-    ensures { λ r. ⌜ ((f : List ℕ) → quickly r (now (state .exit)) (now (request .exit)) (now (reply .exit)) ≡ quickOf (given (lent f (now (marks .entry))) (lists (now (offsets .entry)) (now (sizes .entry)) (now (lens .entry)) (now (names .entry))) (now (table .entry))) (now (state .entry)) (now (request .entry)) (now (reply .entry)) (now (chip .entry)) (now (buffer .entry)) (now (scratch .entry)) (now (bytes .entry))) ⌝ }
-{
-    let Alone::Query(command) = alone_of(bytes) else {
-        return Quick::No;
-    };
-    if !fits_in(
-        state,
-        request.len(),
-        reply.len(),
-        chip.len(),
-        buffer.len(),
-        scratch.len(),
-        marks.len(),
-    ) {
-        return Quick::Done(9);
-    }
-    if !lists_ok(offsets, sizes, lens, names) {
-        return Quick::Done(9);
-    }
-    if !idle(state) {
-        return Quick::No;
-    }
-    Quick::Done(ask(state, request, table, reply, bytes, command))
-}
-
 // The bytes of a write are taken: 0 done, 1 refused or failed, or 9 where nothing is changed.
 #[no_mangle]
 pub extern "C" fn lamjhotu_write(
@@ -381,23 +294,27 @@ pub extern "C" fn lamjhotu_write(
     if state.len() < 652 {
         return 9;
     }
-    match at_once(
+    if !fits_in(
         state,
-        request,
-        marks,
-        offsets,
-        sizes,
-        lens,
-        names,
-        table,
-        chip,
-        buffer,
-        scratch,
-        reply,
-        bytes,
+        request.len(),
+        reply.len(),
+        chip.len(),
+        buffer.len(),
+        scratch.len(),
+        marks.len(),
     ) {
-        Quick::Done(status) => status,
-        Quick::No => write_whole(
+        return 9;
+    }
+    if !lists_ok(offsets, sizes, lens, names) {
+        return 9;
+    }
+    match way_of(state, bytes) {
+        Way::Query(command) => ask(state, request, table, reply, bytes, command),
+        Way::Piece => {
+            piece(state, faults, marks, chip, buffer, bytes);
+            0
+        }
+        Way::Whole => write_whole(
             state,
             request,
             faults,

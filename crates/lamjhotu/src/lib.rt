@@ -2,4 +2,5 @@
 // `rt staticlib lamjhotu` and include/lamjhotu.h. The engine's record lies in bytes that the caller
 // lends.
 pub mod calls;
+pub mod quick;
 pub mod state;

@@ -12,11 +12,12 @@ use wire::bytes::le4;
 use wire::bytes::le8;
 use wire::bytes::put;
 ghost use mathlib.Core.Path.{_≡_};
+ghost use mathlib.Core.List.{_++_};
 ghost use Prim.Native.Nat.{_+_, _≤_, _<_, _^_};
 ghost use lib.ListN.{length, getD};
 ghost use Rattle.wire.specs.Bytes.{bytesOf, wordAt, laid};
 ghost use Rattle.engine.specs.World.{with-said};
-ghost use Rattle.lamjhotu.specs.State.{flagOf, markOver, isNor, isBlock, blockOver, kindOf, erasedOf, setOf, fourOf, wordsOver, smallsOf, marksOver, packOver, metaAt, shapeAt, storeAt, updateAt, frameAt, saidAt, unpackOf};
+ghost use Rattle.lamjhotu.specs.State.{flagOf, markOver, isNor, isBlock, blockOver, kindOf, erasedOf, setOf, fourOf, wordsOver, smallsOf, marksOver, packOver, metaAt, shapeAt, storeAt, updateAt, frameAt, saidAt, unpackOf, counted};
 
 // ---- from bytes to a record
 
@@ -266,6 +267,15 @@ fn small(s: &mut [u8], at: usize, v: u32)
     put(s, at, &le4(v));
 }
 
+// Two numbers from a place on.
+fn two(s: &mut [u8], at: usize, a: u64, b: u64)
+    requires { ⌜ at + 16 ≤ length (now s) ⌝ }
+    ensures { λ _. ⌜ now (s .exit) ≡ laid (now (s .entry)) at (bytesOf 8 a ++ bytesOf 8 b) ⌝ }
+{
+    word(s, at, a);
+    word(s, at + 8, b);
+}
+
 // Four numbers from a place on.
 fn four(s: &mut [u8], at: usize, a: u64, b: u64, c: u64, d: u64)
     requires { ⌜ at + 32 ≤ length (now s) ⌝ }
@@ -337,4 +347,31 @@ pub(crate) fn tell(s: &mut [u8], len: u64, pos: u64)
 {
     word(s, 16, len);
     word(s, 24, pos);
+}
+
+// What a store and its burning have come to: five numbers in a row.
+fn moves(s: &mut [u8], at: u64, block: u64, calls: u64, crc: u32, burn: u32)
+    requires { ⌜ 652 ≤ length (now s) ⌝ }
+    ensures { λ _. ⌜ now (s .exit) ≡ laid (now (s .entry)) 88 (bytesOf 8 at ++ (bytesOf 8 block ++ (bytesOf 8 calls ++ (bytesOf 4 crc ++ bytesOf 4 burn)))) ⌝ }
+{
+    two(s, 88, at, block);
+    word(s, 104, calls);
+    small(s, 112, crc);
+    small(s, 116, burn);
+}
+
+// The record with a piece of a stream counted: seven numbers and two marks are written, and the rest stands.
+pub(crate) fn count(s: &mut [u8], written: u64, left: u64, crc: u32, burn: u32, t: Store)
+    requires { ⌜ (652 ≤ length (now s)) × (t .shape ≡ shapeAt (now s)) ⌝ }
+    ensures { λ _. ⌜ now (s .exit) ≡ laid (now (s .entry)) 0 (packOver (now (s .entry)) (counted written left crc burn t (unpackOf (now (s .entry))))) ⌝ }
+{
+    let x = t.erased;
+    let y = t.erased;
+    let block = block_over(word_at(s, 96), x);
+    let held = mark(s[137], t.held);
+    let erased = mark(s[139], is_block(y));
+    two(s, 40, written, left);
+    moves(s, t.at, block, t.calls, crc, burn);
+    s[137] = held;
+    s[139] = erased;
 }

@@ -39,13 +39,14 @@ use Rattle.engine.specs.Api.{fits, writes}
 use Rattle.engine.proofs.Replies.{header-length}
 use Rattle.engine.proofs.Tidies.{runs-tidy}
 use Rattle.engine_laws.specs.Bounds.{in-bounds, write-feeds, write-fits}
+use Rattle.engine_laws.specs.Piece.{piece-goes}
 use Rattle.engine_laws.specs.Cut.{fed-left}
 use Rattle.engine_laws.specs.Whole.{at-request, emptiedAt, between-is, header-done, roomed, frame-done}
 use Rattle.promises.specs.Frames.{Between}
 use Rattle.promises.specs.Update.{waiting, stream-whole, laid-waits}
 use Rattle.promises.specs.Queries.{Question, crc, burn, number, QueryFrame}
 use Rattle.promises.specs.Why.{Unflushed}
-use Rattle.promises.specs.Replies.{Short, feeds-fed}
+use Rattle.promises.specs.Replies.{Short}
 use Rattle.promises.specs.Kept.{fail-length}
 
 -- ---- a command that fails
@@ -186,7 +187,7 @@ pub record Piece (l : Lent) (p : List ℕ) (w : World) (o : Out) : Type 0 where
 pub piece-told : (g : Given) (w : World) → fits g w ≡ true → (p : List ℕ) → 0 < length p → length p < w .e .up .left → Piece (g .lent) p w (writes g w p)
 piece-told g w f p h i =
     let l = g .lent in
-    subst (Piece l p w) (sym (write-feeds g w f p ∙ feeds-fed g w p h i))
+    subst (Piece l p w) (sym (piece-goes g w p f h i))
     (record {
       status = refl;
       short = short-burn l p w;

@@ -1,28 +1,25 @@
 -- Only named reasons, of replies, those that come with status 0 too ("A data burn failure returns 0 with a fail reply"). A turn leaves
 -- the reply that waits as it is, or lays one whose answer is OK or has its reason: `reply-why`. What a stream's one reply rests on is
 -- traced through the stream: `burn` is 0 at its start, and a fail reply comes only where the storage took less than one of its pieces,
--- or where the flush at its end failed (`stream-why`); and each write that ends within a stream is one such piece (`feeds-fed`).
+-- or where the flush at its end failed (`stream-why`); and each write that ends within a stream is one such piece
+-- (`piece-goes`, crates/engine_laws/specs/Piece.antt).
 use mathlib.Core.Path.{_≡_, refl, ap, subst, _∙_}
 use mathlib.Core.Bool.{Bool, true, false, cond}
 use mathlib.Core.List.{List, [], _∷_}
 use mathlib.Core.Logic.{_⊎_, inl, inr, ⊎-elim}
-use Prim.Native.Nat.{ℕ, _+_, _<_}
-use native.Mathlib.Omega.{arith}
-use borrow.Author.Tests.{eqb-false, eq-eqb, ne-eqb}
+use Prim.Native.Nat.{ℕ, _+_}
+use borrow.Author.Tests.{eqb-false, eq-eqb}
 use lib.Dec.{eqb}
-use lib.ListN.{length, take, drop, getD, drop-of-length-le}
-use lib.Seq.{take-all}
+use lib.ListN.{length, take, drop, getD}
 use Rattle.wire.specs.Header.{parsed}
 use Rattle.wire.specs.declared.header.Header.the-variants as header
 use Rattle.storage.specs.World.{Lent, Told}
 use Rattle.storage.specs.Open.{oneOf}
 use Rattle.storage.specs.Store.{flushing, writing}
-use Rattle.engine.specs.World.{Given, World, with-up, at-e, devOf, Out, outOf}
+use Rattle.engine.specs.World.{Given, World, with-up, at-e, devOf, Out}
 use Rattle.engine.specs.Reply.{Answer, ok, fail, unsupported, odd, whether, replied, ends}
 use Rattle.engine.specs.Stream.{burnBy, fedBy, fed, taken, settledBy, settled, finishes}
-use Rattle.engine.specs.Feed.{wantBy, wantOf, turns, cutOf, feeds}
-use Rattle.engine.proofs.Feeds.{feed-step, feed-nil, then-go}
-use Rattle.engine_laws.specs.Cut.{stream-short}
+use Rattle.engine.specs.Feed.{turns}
 use Rattle.promises.specs.Why.{Unflushed, Why, Large, known, Says}
 use Rattle.promises.specs.Picked.{picked}
 use Rattle.promises.specs.Answers.{runs-says}
@@ -82,17 +79,6 @@ module _ (l : Lent) where
   -- the flush failed
   pub stream-why : (ps : List (List ℕ)) (w : World) → w .e .up .burn ≡ 0 → (settled l (feds ps w) .e .up .burn ≡ 0 → ⊥) → ShortIn ps w ⊎ Unflushed l (devOf (feds ps w))
   stream-why ps w z h = ⊎-elim (λ k. inl (⊎-elim (λ n. absurd (n z)) (λ s. s) (feds-burn ps w k))) inr (end-why (feds ps w) h)
-
--- a write that ends within a stream feeds its bytes as one piece
-pub feeds-fed : (g : Given) (w : World) (a : List ℕ) → 0 < length a → length a < w .e .up .left → feeds g w a ≡ outOf 0 (fed (g .lent) a w)
-unfolding wantBy
-feeds-fed g w a h i =
-    let n : w .e .up .left ≡ 0 → ⊥ = λ e. omega arith in
-    let e = stream-short g a [] w n i in
-    let k : wantOf (w .e) ≡ w .e .up .left = rw (ne-eqb (w .e .up .left) 0 n) in
-    feed-step g w a h
-    ∙ rw (take-all (cutOf w) a (omega arith), drop-of-length-le a {i = cutOf w} (omega arith), e) (then-go g (outOf 0 (fed (g .lent) a w)) (λ v. feeds g v []) refl)
-    ∙ feed-nil g (fed (g .lent) a w)
 
 -- ---- every reply
 

@@ -2,10 +2,10 @@
 use borrow.Author.Tests.{eq-eqb, ne-eqb}
 use Rattle.lamjhotu.specs.Calls.{idleOf}
 use borrow.Author.Needs.{needs}
-use Rattle.lamjhotu.proofs.calls.idle.Statement.{statement}
-use Rattle.lamjhotu.proofs.calls.idle.Tie as tie
-use Rattle.lamjhotu.proofs.calls.idle.Reads as reads
-use Rattle.lamjhotu.proofs.calls.idle.Lts as lts
+use Rattle.lamjhotu.proofs.quick.idle.Statement.{statement}
+use Rattle.lamjhotu.proofs.quick.idle.Tie as tie
+use Rattle.lamjhotu.proofs.quick.idle.Reads as reads
+use Rattle.lamjhotu.proofs.quick.idle.Lts as lts
 use Rattle.lamjhotu.proofs.state.word_at.Reads as word-at-reads
 
 word-at-requires : tie.Need-word-at-requires
