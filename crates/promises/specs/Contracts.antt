@@ -70,6 +70,7 @@ use Rattle.engine.proofs.shell.window_of.Reads as window-of
 use Rattle.engine.proofs.shell.boot_table.Reads as boot-table
 use Rattle.engine.proofs.short.alone_of.Reads as alone-of
 use Rattle.engine.proofs.short.answer.Reads as answer
+use Rattle.engine.proofs.stream.burn_by.Reads as burn-by
 use Rattle.transport.proofs.port.start.Reads as start
 use Rattle.transport.proofs.step.step.Reads as step
 use Rattle.promises.specs.Fixed.{meet}
@@ -285,7 +286,7 @@ pub storage-read-one : Fixes storage-read.Learnt (λ k r r′ s s′.
     × (now (s .1 .1 .1 .1 .1 .1 .0) ≡ now (s′ .1 .1 .1 .1 .1 .1 .0)))
 storage-read-one k a r r′ s s′ = stores.read-fixed _ _ _ _ r r′ _ _ _ _ _ _
 
--- ---- engine: api, command, shell, short
+-- ---- engine: api, command, shell, short, stream
 
 -- `api::numbers_ok`
 pub numbers-ok-one : Returns numbers-ok.Learnt
@@ -372,6 +373,10 @@ pub answer-one : Fixes answer.Learnt (λ k r r′ s s′.
     (r ≡ r′)
     × (now (s .1 .1 .1 .1 .1 .1 .0) ≡ now (s′ .1 .1 .1 .1 .1 .1 .0)))
 answer-one k a r r′ s s′ = engines.answer-fixed _ _ _ _ _ _ _ r r′ _ _
+
+-- `stream::burn_by`
+pub burn-by-one : Returns burn-by.Learnt
+burn-by-one k a r r′ s s′ = meet
 
 -- ---- transport: port, step
 

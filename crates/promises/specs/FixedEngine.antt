@@ -13,6 +13,7 @@ use Rattle.engine.specs.World.{Given, given, World, Out, out}
 use Rattle.engine.specs.Api.{roomsOk, frameOk, saidOk, boundsOk, fits, openedNor, openedNand, writes, Read, took, reads, cleared}
 use Rattle.engine.specs.Command.{isQuery, asking, pairOf}
 use Rattle.engine.specs.Short.{aloneOf, Answer, answered, answerOf}
+use Rattle.engine.specs.Stream.{burnBy}
 use Rattle.engine.specs.Shell.{textOf, isWrite, isReset, lineOf, windowOf, bootTable}
 use Rattle.engine.specs.declared.api.Opening.{Opening}
 use Rattle.engine.specs.declared.api.Taken.{Taken}
@@ -155,6 +156,12 @@ pub answer-fixed : (base burn run : ℕ) (store : Store) (command : ℕ) (table 
     → answered r p ≡ answerOf command (asking base burn run store) table reply → answered r′ p′ ≡ answerOf command (asking base burn run store) table reply
     → (r ≡ r′) × (p ≡ p′)
 answer-fixed base burn run store command table reply r r′ p p′ h h′ = let e = meet h h′ in (ap answeredOf e, ap (λ a. a .reply) e)
+
+-- ---- engine: stream
+
+-- `stream::burn_by`
+pub burn-by-fixed : (old count n : ℕ) → Fixes ℕ (λ r. r ≡ burnBy old count n)
+burn-by-fixed old count n = fixed _
 
 -- ---- transport
 
