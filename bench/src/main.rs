@@ -18,6 +18,8 @@ use std::time::{Duration, Instant};
 pub const CHIP: usize = 1 << 20;
 pub const BASE: u32 = 0x4000_0000;
 const QUERIES: usize = 100_000;
+/// Enough that some of them are not disturbed by other work of the machine.
+const ROUNDS: usize = 60;
 
 /// An engine, whichever.
 pub trait Side {
@@ -154,12 +156,15 @@ fn main() {
     let (scratch, payload) = (theirs::scratch(), payload());
     println!(
         "{:<34} {:>13} {:>13} {:>8}",
-        "the least of 15 rounds", "proved", "Rust", "ratio"
+        format!("the least of {ROUNDS} rounds"),
+        "proved",
+        "Rust",
+        "ratio"
     );
     for piece in [512, 4096] {
         let mut answers = (None, None);
         let times = race(
-            15,
+            ROUNDS,
             || {
                 let mut side = ours::Ours::open();
                 let (time, left) = timed(|| update(&mut side, &payload, piece));
@@ -182,7 +187,7 @@ fn main() {
     }
     let mut answers = (None, None);
     let times = race(
-        15,
+        ROUNDS,
         || {
             let mut side = ours::Ours::open();
             let (time, left) = timed(|| queries(&mut side, QUERIES));
@@ -204,7 +209,7 @@ fn main() {
         "the sides differ"
     );
     let times = race(
-        15,
+        ROUNDS,
         || timed(|| std::hint::black_box(ours::crc32(&payload))).0,
         || timed(|| std::hint::black_box(theirs::crc32(&payload))).0,
     );
