@@ -1,8 +1,9 @@
 -- A word of eight bytes goes into the register at once, and each byte's shifts are one lookup: the shift is linear, so the 64
 -- shifts of eight bytes are the sum of what each byte becomes alone, and a byte that is j bytes up has 8 * j shifts less to go.
-use mathlib.Core.Path.{_≡_, refl, sym, ap, ap₂, _∙_, subst}
-use mathlib.Core.List.{List, [], _∷_, _++_}
+use mathlib.Core.Path.{_≡_, sym, ap, ap₂, _∙_}
+use mathlib.Core.List.{List, [], _∷_}
 use Prim.Native.Nat.{ℕ, zero, suc, _+_, _-_, _*_, _/_, _%_, _^_, _≤_, _<_}
+use native.Mathlib.Nat.{zero-mul}
 use native.Mathlib.Omega.{arith}
 use lib.Pow.{shr-shr}
 use lib.Dec.{lit<}
@@ -67,11 +68,15 @@ crc-turn s i r h hb =
 
 -- ---- the table
 
--- the lowest byte apart
-peel : (n x : ℕ) → shifts (8 + n) x ≡ shifts n (x / 256) ⊕ shifts (8 + n) (x % 256)
-peel n x =
-    sym (shifts-add 8 n x) ∙ ap (shifts n) (shifts-split 8 x) ∙ shifts-⊕ n (x / 256) (shifts 8 (x % 256))
-    ∙ ap (λ (k : ℕ). shifts n (x / 256) ⊕ k) (shifts-add 8 n (x % 256))
+-- the lowest bits apart
+peel : (m n x : ℕ) → shifts (m + n) x ≡ shifts n (x / 2 ^ m) ⊕ shifts (m + n) (x % 2 ^ m)
+peel m n x =
+    sym (shifts-add m n x) ∙ ap (shifts n) (shifts-split m x) ∙ shifts-⊕ n (x / 2 ^ m) (shifts m (x % 2 ^ m))
+    ∙ ap (λ (k : ℕ). shifts n (x / 2 ^ m) ⊕ k) (shifts-add m n (x % 2 ^ m))
+
+-- eight bytes in halves
+pub in-halves : (x : ℕ) → shifts 32 (x / 2 ^ 32) ⊕ shifts 64 (x % 2 ^ 32) ≡ shifts 64 x
+in-halves x = sym (peel 32 32 x)
 
 -- what stands in row j
 row : (j y : ℕ) → j < 8 → getD sliceTable (j * 256 + y % 256) 0 ≡ shifts (64 - 8 * j) (y % 256)
@@ -84,15 +89,15 @@ row j y h = at entry 2048 (j * 256 + y % 256) (omega arith) ∙ ap₂ (λ (a b :
     place : (j * 256 + y % 256) % 256 ≡ y % 256
     place = omega arith
 
--- a turn of the loop over the eight bytes
-pub row-turn : (r y j : ℕ) → j < 8
+-- a lookup
+row-turn : (r y j : ℕ) → j < 8
     → (r ⊕ getD sliceTable (j * 256 + y % 256) 0) ⊕ shifts (64 - 8 * (j + 1)) (y / 256) ≡ r ⊕ shifts (64 - 8 * j) y
 row-turn r y j h =
     ⊕-assoc r (getD sliceTable (j * 256 + y % 256) 0) (shifts (64 - 8 * (j + 1)) (y / 256))
     ∙ ap (λ (x : ℕ). r ⊕ x)
     (⊕-comm (getD sliceTable (j * 256 + y % 256) 0) (shifts (64 - 8 * (j + 1)) (y / 256))
     ∙ ap (λ (x : ℕ). shifts (64 - 8 * (j + 1)) (y / 256) ⊕ x) (row j y h ∙ ap (λ (n : ℕ). shifts n (y % 256)) (sym count))
-    ∙ sym (peel (64 - 8 * (j + 1)) y)
+    ∙ sym (peel 8 (64 - 8 * (j + 1)) y)
     ∙ ap (λ (n : ℕ). shifts n y) count)
   where
     count : 8 + (64 - 8 * (j + 1)) ≡ 64 - 8 * j
@@ -104,18 +109,21 @@ further x y j e = ap (λ (k : ℕ). k / 256) e ∙ shr-shr x (8 * j) 8 ∙ ap (�
     count : 8 * j + 8 ≡ 8 * (j + 1)
     count = omega arith
 
--- after eight bytes nothing is left
-pub all-in : (r y x j : ℕ) → 8 ≤ j → j ≤ 8 → x < 2 ^ 64 → y ≡ x / 2 ^ (8 * j) → r ⊕ shifts (64 - 8 * j) y ≡ shifts 64 x → r ≡ shifts 64 x
-unfolding shifts
-all-in r y x j a b h e q = go (omega arith) e q
-  where
-    go : j ≡ 8 → y ≡ x / 2 ^ (8 * j) → r ⊕ shifts (64 - 8 * j) y ≡ shifts 64 x → r ≡ shifts 64 x
-    go p =
-        subst (λ (k : ℕ). y ≡ x / 2 ^ (8 * k) → r ⊕ shifts (64 - 8 * k) y ≡ shifts 64 x → r ≡ shifts 64 x) (sym p)
-        (λ e′ q′. sym (⊕-zero r) ∙ ap (λ (k : ℕ). r ⊕ k) (zero-y e′) ∙ q′)
-      where
-        zero-y : y ≡ x / 2 ^ 64 → 0 ≡ y
-        zero-y e′ = omega arith
+-- a turn of the loop over four bytes
+pub rows-turn : (r y up j z : ℕ) → up ≤ 4 → j < 4 → r ⊕ shifts (64 - 8 * (up + j)) y ≡ z
+    → (r ⊕ getD sliceTable ((up + j) * 256 + y % 256) 0) ⊕ shifts (64 - 8 * (up + (j + 1))) (y / 256) ≡ z
+rows-turn r y up j z h i e =
+    let k : up + (j + 1) ≡ up + j + 1 = omega arith in
+    ap (λ (n : ℕ). (r ⊕ getD sliceTable ((up + j) * 256 + y % 256) 0) ⊕ shifts (64 - 8 * n) (y / 256)) k ∙ row-turn r y (up + j) (omega arith) ∙ e
+
+-- after four bytes nothing is left
+pub all-in : (r y x up j z : ℕ) → 4 ≤ j → j ≤ 4 → x < 2 ^ 32 → y ≡ x / 2 ^ (8 * j) → r ⊕ shifts (64 - 8 * (up + j)) y ≡ z → r ≡ z
+all-in r y x up j z a b h e q =
+    let k : j ≡ 4 = omega arith in
+    let i : y ≡ x / 2 ^ 32 = e ∙ ap (λ (n : ℕ). x / 2 ^ (8 * n)) k in
+    let n : ℕ = 64 - 8 * (up + j) in
+    let o : y ≡ 0 * 2 ^ n = omega (arith, zero-mul (2 ^ n)) in
+    sym (⊕-zero r) ∙ ap (λ (k : ℕ). r ⊕ k) (sym (ap (shifts n) o ∙ shifts-out n 0)) ∙ q
 
 -- one byte, by the last row
 pub byte-in : (r b : ℕ) → b < 256 → r / 256 ⊕ getD sliceTable (1792 + (r ⊕ b) % 256) 0 ≡ byteIn r b

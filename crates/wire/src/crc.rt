@@ -2,7 +2,7 @@
 // each; what is left over a byte at a time.
 use crate::bytes::wide;
 ghost use mathlib.Core.Path.{_≡_};
-ghost use Prim.Native.Nat.{_+_, _≤_, _/_, _*_};
+ghost use Prim.Native.Nat.{_+_, _-_, _≤_, _<_, _/_, _*_, _^_};
 ghost use lib.ListN.{length, take, drop};
 ghost use Rattle.wire.specs.Bytes.{le};
 ghost use Rattle.wire.specs.Crc.{shifts, byteIn, crcFrom, crcUpdate};
@@ -2078,20 +2078,29 @@ fn word(s: &[u8], i: usize) -> u64
     low + 0x1_0000_0000 * high
 }
 
-// 64 shifts: a lookup for each of eight bytes.
-fn shifted(t: &[u32; 2048], x: u64) -> u32
-    requires { ⌜ now t ≡ sliceTable ⌝ }
-    ensures { λ r. ⌜ r ≡ shifts 64 x ⌝ }
+// The shifts of four bytes that stand `up` bytes up in eight: a lookup for each.
+fn rows(t: &[u32; 2048], up: usize, x: u64) -> u32
+    requires { ⌜ (now t ≡ sliceTable) × (up ≤ 4) × (x < 2 ^ 32) ⌝ }
+    ensures { λ r. ⌜ r ≡ shifts (64 - 8 * up) x ⌝ }
 {
     let mut r: u32 = 0;
     let mut y = x;
     let mut j: usize = 0;
-    while j < 8 {
-        r = r ^ t[j * 256 + (y % 256) as usize];
+    while j < 4 {
+        r = r ^ t[(up + j) * 256 + (y % 256) as usize];
         y = y / 256;
         j += 1;
     }
     r
+}
+
+// 64 shifts. Of a register and eight bytes, the upper half is the bytes' alone: its lookups need not wait
+// for the register.
+fn shifted(t: &[u32; 2048], x: u64) -> u32
+    requires { ⌜ now t ≡ sliceTable ⌝ }
+    ensures { λ r. ⌜ r ≡ shifts 64 x ⌝ }
+{
+    rows(t, 4, x / 0x1_0000_0000) ^ rows(t, 0, x % 0x1_0000_0000)
 }
 
 // One byte goes into the register.

@@ -1,67 +1,20 @@
--- After j bytes the sum so far and what is left of the word give the same 64 shifts.
+-- The upper half and the lower, each by its rows.
+use mathlib.Core.Path.{ap₂, _∙_}
+use Rattle.wire.specs.Crc.{_⊕_}
+use Rattle.wire.proofs.Slices.{in-halves}
 use borrow.Author.Needs.{needs}
-use mathlib.Core.Path.{_≡_, refl, sym, ap, ap₂, _∙_}
-use Prim.Native.Nat.{ℕ, _+_, _-_, _*_, _/_, _%_, _^_, _≤_}
-use mathlib.Core.List.{List}
-use native.Mathlib.Omega.{arith}
-use lib.ListN.{getD}
-use Rattle.wire.specs.Crc.{_⊕_, shifts}
-use Rattle.wire.proofs.Slices.{row-turn, further, all-in}
 use Rattle.wire.proofs.crc.shifted.Statement.{statement}
 use Rattle.wire.proofs.crc.shifted.Tie as tie
 
-abbrev Inv-loop : tie.InvT-loop
-Inv-loop t x r₀ y₀ j₀ r y j = (j ≤ 8) × (y ≡ x / 2 ^ (8 * j)) × (r ⊕ shifts (64 - 8 * j) y ≡ shifts 64 x)
+rows-requires : tie.Need-rows-requires
+rows-requires c κs = search needs
 
-abbrev μ-loop : tie.MeasureT-loop
-μ-loop t x r₀ y₀ j₀ r y j = 8 - j
+rows-requires-2 : tie.Need-rows-requires-2
+rows-requires-2 c κs = search needs
 
-loop-holds : tie.Need-loop-holds Inv-loop μ-loop
+returns : tie.Need-returns
 unfolding _⊕_
-loop-holds c = (omega arith, omega arith, refl)
-
-mul-r : tie.Need-mul-r Inv-loop μ-loop
-mul-r c = search needs
-
-add-r : tie.Need-add-r Inv-loop μ-loop
-add-r c = search needs
-
-mul-r-2 : tie.Need-mul-r-2 Inv-loop μ-loop
-mul-r-2 c = search needs
-
-element-copy-out-r : tie.Need-element-copy-out-r Inv-loop μ-loop
-element-copy-out-r c = search needs
-
-add-j : tie.Need-add-j Inv-loop μ-loop
-add-j c = search needs
-
-loop-less : tie.Need-loop-less Inv-loop μ-loop
-loop-less c = search needs
-
-loop-again : tie.Need-loop-again Inv-loop μ-loop
-unfolding _⊕_
-loop-again c = (
-  omega arith,
-  further (c .before .before .before .args .x) (c .before .before .loop .y) (c .before .before .loop .j) (c .before .before .loop .inv .1),
-  ap (λ (l : List ℕ). (c .before .before .loop .r ⊕ getD l (c .before .before .loop .j * 256 + c .before .before .loop .y % 256) 0) ⊕ shifts (64 - 8 * (c .before .before .loop .j + 1)) (c .before .before .loop .y / 256)) (c .before .before .before .pre)
-      ∙ row-turn (c .before .before .loop .r) (c .before .before .loop .y) (c .before .before .loop .j) (c .before .loop-test .taken) ∙ c .before .before .loop .inv .2,
-)
-
-returns : tie.Need-returns Inv-loop μ-loop
-returns c = all-in (c .before .loop .r) (c .before .loop .y) (c .before .before .args .x) (c .before .loop .j) (c .loop-test .left) (c .before .loop .inv .0) (c .before .before .fits .x .fits) (c .before .loop .inv .1) (c .before .loop .inv .2)
+returns c = ap₂ _⊕_ (c .before .rows .ensures) (c .rows2 .ensures) ∙ in-halves (c .before .before .args .x)
 
 pub shifted-spec : {M : Type 1} → statement M
-shifted-spec =
-    tie.close
-    (tie.spec
-    Inv-loop
-    μ-loop
-    loop-holds
-    mul-r
-    add-r
-    mul-r-2
-    element-copy-out-r
-    add-j
-    loop-less
-    loop-again
-    returns)
+shifted-spec = tie.close (tie.spec rows-requires rows-requires-2 returns)
