@@ -2,7 +2,7 @@
 use mathlib.Core.Path.{_≡_, refl, sym, ap, _∙_}
 use mathlib.Core.Bool.{Bool, true, false, _&&_, cond, and-assoc}
 use mathlib.Core.List.{List}
-use Prim.Native.Nat.{ℕ, _+_, _-_, _^_, _≤_, _<_, min}
+use Prim.Native.Nat.{ℕ, _+_, _-_, _^_, _≤_, min}
 use native.Mathlib.Omega.{arith}
 use borrow.Author.Tests.{le-leb, leb-true, lt-ltb, le-ltb, ltb-true, ltb-false, eqb-true, eqb-false}
 use lib.Dec.{leb, ltb, eqb}
@@ -20,7 +20,7 @@ use Rattle.engine.specs.declared.types.Update.{Update}
 use Rattle.engine.specs.declared.api.Got.the-variants as got
 use Rattle.engine.specs.World.{Given, World, with-said, devOf}
 use Rattle.engine.specs.Stream.{UpFit}
-use Rattle.engine.specs.Feed.{SaidFit, FrameFit, Mid, Fit}
+use Rattle.engine.specs.Feed.{SaidFit, FrameFit, Fit}
 use Rattle.engine.specs.Api.{roomsOk, frameOk, saidOk, boundsOk, upOk, engineOk, fits, noStore, Read, reads}
 
 -- ---- tests

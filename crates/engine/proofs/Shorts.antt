@@ -13,7 +13,6 @@ use Rattle.wire.specs.declared.header.Header.the-variants as header
 use Rattle.engine.specs.declared.types.Engine.{Engine}
 use Rattle.engine.specs.declared.types.Ended.{Ended}
 use Rattle.engine.specs.declared.exec.Group.{Group}
-use Rattle.engine.specs.declared.short.Alone.{Alone}
 use Rattle.engine.specs.declared.short.Alone.the-variants.{Other}
 use Rattle.engine.specs.Reply.{place, Placed, placing, statusIs, headerIs, lengthIs}
 use Rattle.engine.specs.Command.{isQuery, plain}

@@ -1,5 +1,5 @@
 -- The engine's public calls: openings, write, read, reset and the two flags (01, 'Replies and refusals', row 9 and 'In bounds').
-use mathlib.Core.Bool.{Bool, true, false, _&&_, cond}
+use mathlib.Core.Bool.{Bool, false, _&&_, cond}
 use mathlib.Core.List.{List}
 use Prim.Native.Nat.{ℕ, _+_, _-_, _^_, min}
 use lib.Dec.{leb, ltb, eqb}

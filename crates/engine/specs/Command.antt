@@ -1,13 +1,12 @@
 -- The commands of `execute_inner` that need no storage call, and those of scratch (01, 'Frame rules').
-use mathlib.Core.Bool.{Bool, true, false, _&&_, _||_, cond}
+use mathlib.Core.Bool.{Bool, false, _&&_, cond}
 use mathlib.Core.List.{List, [], _∷_, _++_}
-use Prim.Native.Nat.{ℕ, _+_, _-_, _<_, _^_}
-use lib.Dec.{leb, ltb, eqb}
+use Prim.Native.Nat.{ℕ, _+_, _-_}
+use lib.Dec.{leb, eqb}
 use lib.ListN.{length, take, drop, replicate}
 use lib.Seq.{sets}
 use Rattle.text.specs.Token.{ascii}
 use Rattle.wire.specs.Bytes.{bytesOf, wordAt}
-use Rattle.storage.specs.declared.types.Shape.{Shape}
 use Rattle.storage.specs.declared.types.Store.{Store}
 use Rattle.storage.specs.Open.{oneOf, blockSizeOf, isNand}
 use Rattle.engine.specs.declared.types.Engine.{Engine}

@@ -1,6 +1,6 @@
 -- A whole frame is executed: protocol.rs `execute_inner` (01, 'Frame rules', rows 1c to 1e). The commands stand in four groups, by
 -- what they touch.
-use mathlib.Core.Bool.{Bool, true, false, not, _||_, cond}
+use mathlib.Core.Bool.{not, _||_, cond}
 use mathlib.Core.List.{List, [], _∷_}
 use Prim.Native.Nat.{ℕ, _+_}
 use lib.Dec.{leb, eqb}
@@ -15,7 +15,7 @@ use Rattle.engine.specs.declared.exec.Group.the-variants.{Memory, Shell,
 use Rattle.engine.specs.declared.exec.Order.{Order}
 use Rattle.engine.specs.declared.exec.Order.the-variants.{Bad, Run}
 use Rattle.engine.specs.World.{Given, World, with-flags, emptied, at-e, at-scratch, Out, outOf}
-use Rattle.engine.specs.Reply.{Answer, Ran, ran, ends}
+use Rattle.engine.specs.Reply.{Ran, ran, ends}
 use Rattle.engine.specs.Command.{isQuery, plain, Wrote, readOf, writeOf}
 use Rattle.engine.specs.Storing.{endUpgrade, crcQuery, readFwc, eraseStorage, setMeta}
 use Rattle.engine.specs.Running.{shell}

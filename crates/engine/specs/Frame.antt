@@ -1,6 +1,6 @@
 -- Gathering a frame: what its header asks for, and what happens once its bytes are there (01, 'Frame rules', rows 1a and 1b;
 -- protocol.rs `transport_write`).
-use mathlib.Core.Bool.{Bool, true, false, cond}
+use mathlib.Core.Bool.{cond}
 use mathlib.Core.List.{List}
 use Prim.Native.Nat.{ℕ, _+_, _%_, _^_}
 use lib.Dec.{leb, ltb, eqb}
@@ -9,7 +9,6 @@ use lib.Seq.{sets}
 use Rattle.wire.specs.Header.{parsed}
 use Rattle.wire.specs.declared.header.Header.{Header}
 use Rattle.wire.specs.declared.header.Header.the-variants as header
-use Rattle.engine.specs.declared.types.Engine.{Engine}
 use Rattle.engine.specs.declared.frame.Next.{Next}
 use Rattle.engine.specs.declared.frame.Next.the-variants.{Refused, Send, Total}
 use Rattle.engine.specs.World.{Given, World, world, with-frame, emptied, at-e, Out, outOf}

@@ -1,7 +1,7 @@
 -- Replies (01, 'Replies and refusals', 'Frame rules'; protocol.rs `begin_response`, `finish_response`, `fail_response`,
 -- `unsupported_response`): a header, and behind it the data.
 use mathlib.Core.Bool.{Bool, true, false, cond}
-use mathlib.Core.List.{List, [], _∷_, _++_}
+use mathlib.Core.List.{List, [], _++_}
 use Prim.Native.Nat.{ℕ, _+_}
 use lib.Dec.{leb}
 use lib.ListN.{length, replicate}

@@ -1,11 +1,11 @@
 -- RUN_SHELL_STR over the storage: shell.rs `run` behind its parsing (01, 'Shell').
-use mathlib.Core.Bool.{Bool, true, false, _||_, cond}
-use mathlib.Core.List.{List, [], _∷_}
+use mathlib.Core.Bool.{_||_, cond}
+use mathlib.Core.List.{List, []}
 use Prim.Native.Nat.{ℕ, _+_, _≤_}
 use lib.Dec.{eqb}
 use lib.ListN.{length, take, drop}
 use lib.Seq.{sets}
-use Rattle.storage.specs.World.{Lent, Told, Seen}
+use Rattle.storage.specs.World.{Lent}
 use Rattle.storage.specs.Store.{flushing, erasing}
 use Rattle.storage.specs.Scratch.{fromScratch, intoScratch}
 use Rattle.storage.specs.Open.{blockSizeOf}

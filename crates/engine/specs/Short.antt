@@ -1,5 +1,5 @@
 -- A status query alone in a write (01, 'Frame rules'): what its bytes ask, and what is answered.
-use mathlib.Core.Bool.{Bool, true, false, _&&_, cond}
+use mathlib.Core.Bool.{_&&_, cond}
 use mathlib.Core.List.{List}
 use Prim.Native.Nat.{ℕ}
 use lib.Dec.{eqb}

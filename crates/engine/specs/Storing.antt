@@ -1,6 +1,6 @@
 -- The commands over the storage: SET_UPG_END, SET_FWC_META, GET_FWC_CRC, READ_FWC_DATA, ERASE_STORAGE, each in the order of
 -- `execute_inner` (01, 'Frame rules').
-use mathlib.Core.Bool.{Bool, true, false, _&&_, cond}
+use mathlib.Core.Bool.{Bool, true, false, cond}
 use mathlib.Core.List.{List, [], _∷_}
 use Prim.Native.Nat.{ℕ, _-_, min}
 use lib.Dec.{leb, eqb}
@@ -8,7 +8,7 @@ use lib.ListN.{length, take, drop, replicate}
 use Rattle.text.specs.Utf8.{isUtf8}
 use Rattle.text.specs.Token.{ascii, until, same}
 use Rattle.wire.specs.Bytes.{bytesOf, wordAt}
-use Rattle.storage.specs.World.{Lent, Dev, Told, Seen}
+use Rattle.storage.specs.World.{Lent, Told, Seen}
 use Rattle.storage.specs.Store.{flushing, erasing, reading}
 use Rattle.storage.specs.Partition.{Lists, lookup}
 use Rattle.storage.specs.declared.partition.Found.{Found}

@@ -1,6 +1,6 @@
 -- SEND_FWC_DATA: taken at its header, then its payload piece by piece, then one reply (01, 'Frame rules'; protocol.rs
 -- `begin_fwc_stream`, `write_fwc_payload`, `finish_fwc_stream`).
-use mathlib.Core.Bool.{Bool, true, false, cond}
+use mathlib.Core.Bool.{cond}
 use mathlib.Core.List.{List}
 use Prim.Native.Nat.{ℕ, _+_, _-_, _≤_, _<_, _^_}
 use lib.Dec.{eqb}

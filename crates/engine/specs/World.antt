@@ -1,5 +1,5 @@
 -- The whole state that a call of the engine sees, and what it leaves.
-use mathlib.Core.Bool.{Bool, true, false, cond}
+use mathlib.Core.Bool.{Bool}
 use mathlib.Core.List.{List}
 use Prim.Native.Nat.{ℕ}
 use Rattle.storage.specs.World.{Lent, Dev, dev}

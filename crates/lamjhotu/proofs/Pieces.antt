@@ -7,7 +7,7 @@ use mathlib.Core.List.{List, _++_, append-nil}
 use Prim.Native.Nat.{ℕ, _+_, _-_, _≤_, _<_}
 use native.Mathlib.Omega.{arith}
 use borrow.Author.Tests.{le-leb, lt-ltb, ltb-true}
-use lib.Dec.{ltb, eqb}
+use lib.Dec.{ltb}
 use lib.ListN.{length, getD, drop, replicate}
 use Rattle.wire.specs.Bytes.{wordAt, laid}
 use Rattle.wire.specs.Crc.{crcUpdate}
@@ -20,7 +20,7 @@ use Rattle.storage.proofs.Fold.{false-true}
 use Rattle.engine.specs.declared.short.Alone.{Alone}
 use Rattle.engine.specs.declared.short.Alone.the-variants as alone
 use Rattle.engine.specs.World.{Given, World, world, outOf}
-use Rattle.engine.specs.Stream.{UpFit, burnBy, fed, fedBy}
+use Rattle.engine.specs.Stream.{UpFit, burnBy, fedBy}
 use Rattle.engine.specs.Short.{aloneOf}
 use Rattle.engine.specs.Api.{fits, writes}
 use Rattle.engine_laws.specs.Bounds.{in-bounds}

@@ -20,8 +20,6 @@ use Rattle.storage.specs.declared.types.Kind.the-variants.{Nor, Nand}
 use Rattle.storage.specs.declared.types.Shape.{Shape}
 use Rattle.storage.specs.declared.types.Store.{Store}
 use Rattle.engine.specs.declared.types.Engine.{Engine}
-use Rattle.engine.specs.declared.types.Frame.{Frame}
-use Rattle.engine.specs.declared.types.Said.{Said}
 use Rattle.engine.specs.declared.types.Update.{Update}
 use Rattle.engine.specs.World.{with-said}
 use Rattle.lamjhotu.specs.State.{markOver, isNor, isBlock, blockOver, fourOf, wordsOver, smallsOf, marksOver, packOver, setOf, kindOf, erasedOf, metaAt, shapeAt, storeAt, updateAt, unpackOf}

@@ -1,5 +1,5 @@
 -- Remainders by a page size that is a variable: an address within its page, at the page's end, and in the next one.
-use mathlib.Core.Path.{_≡_, sym, ap, _∙_}
+use mathlib.Core.Path.{_≡_, ap, _∙_}
 use Prim.Native.Nat.{ℕ, _+_, _-_, _*_, _%_, _/_, _≤_, _<_}
 use native.Mathlib.Nat.{div-add-mod', mul-add-mod-self-right, mod-eq-of-lt, mod-self, le-mul-of-pos-right}
 use native.Mathlib.Omega.{arith}

@@ -14,7 +14,7 @@ use Rattle.storage.specs.declared.types.Kind.{Kind}
 use Rattle.storage.specs.declared.types.Kind.the-variants.{Nor, Nand}
 use Rattle.storage.specs.World.{Lent, Dev, dev, Told, told, Seen, seen}
 use Rattle.storage.specs.Chip.{over, fetched}
-use Rattle.storage.specs.Fold.{run, writes}
+use Rattle.storage.specs.Fold.{run}
 use Rattle.storage.specs.Nor as NorOf
 use Rattle.storage.specs.Nor.{pagesOf, satAdd}
 use Rattle.storage.specs.Nand as NandOf

@@ -1,16 +1,15 @@
 -- Which kind answers a call, and what the tests of a call give to the functions of its kind.
-use mathlib.Core.Path.{_≡_, refl, sym, ap, _∙_}
-use mathlib.Core.Bool.{Bool, true, false, _&&_, cond}
+use mathlib.Core.Path.{_≡_, sym, _∙_}
+use mathlib.Core.Bool.{Bool, true, false, _&&_}
 use mathlib.Core.List.{List}
 use Prim.Native.Nat.{ℕ, _≤_}
 use native.Mathlib.Omega.{arith}
 use lib.ListN.{length}
-use Rattle.storage.specs.declared.types.Kind.{Kind}
 use Rattle.storage.specs.declared.types.Kind.the-variants.{Nor, Nand}
 use Rattle.storage.specs.declared.types.Answer.{Answer}
 use Rattle.storage.specs.declared.types.Store.{Store}
-use Rattle.storage.specs.World.{Lent, lent, Dev, dev, out, told, report, statusOf}
-use Rattle.storage.specs.Nand.{Sound, Shaped}
+use Rattle.storage.specs.World.{Lent, Dev, dev, out, told, report, statusOf}
+use Rattle.storage.specs.Nand.{Sound}
 use Rattle.storage.specs.Open.{inBounds, partsFit}
 use Rattle.storage.specs.Store.{good, byGood, answer}
 use Rattle.storage.proofs.Opens.{sound}

@@ -1,7 +1,7 @@
 -- A storage write is a left fold over its bytes, for every kind of device: the page that a byte falls in is brought into the
 -- buffer, the byte is set there, and the page is closed if the byte was its last. The kind gives the page's size, how a page is
 -- brought in (`load`) and what is done at the address behind a byte (`seal`). After a failure nothing happens.
-use mathlib.Core.Bool.{Bool, true, false, cond}
+use mathlib.Core.Bool.{Bool, false, cond}
 use mathlib.Core.List.{List, [], _∷_}
 use Prim.Native.Nat.{ℕ, _+_, _-_, _%_}
 use lib.ListN.{set}

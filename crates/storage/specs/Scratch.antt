@@ -1,5 +1,5 @@
 -- Moves between scratch and the device, in pieces of 256 bytes: storage.rs `write_from_scratch` and `read_into_scratch`.
-use mathlib.Core.Bool.{Bool, cond}
+use mathlib.Core.Bool.{cond}
 use mathlib.Core.List.{List, _++_}
 use Prim.Native.Nat.{ℕ, zero, suc, _+_}
 use lib.Dec.{eqb}

@@ -11,7 +11,7 @@ use native.Mathlib.Numerals.{add-one}
 use lib.ListN.{length, getD, drop, drop-of-length-le}
 use lib.Seq.{drop-cons}
 use Rattle.wire.specs.Crc.{_⊕_, shift, shifts, byteIn, crcFrom, complement, crcUpdate}
-use Rattle.wire.proofs.Xor.{⊕-self, ⊕-assoc, ⊕-comm, ⊕-half, ⊕-odd, ⊕-zero, ⊕-shr, ⊕-shifted}
+use Rattle.wire.proofs.Xor.{⊕-self, ⊕-assoc, ⊕-comm, ⊕-half, ⊕-odd, ⊕-zero, ⊕-shifted}
 
 -- the polynomial taken as often as two bits say
 taken : (x y : ℕ) → x < 2 → y < 2 → (x ⊕ y) * 0xEDB88320 ≡ x * 0xEDB88320 ⊕ y * 0xEDB88320

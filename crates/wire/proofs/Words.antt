@@ -1,7 +1,7 @@
 -- Laws of little-endian words. A word of four or eight bytes is the sum that the code forms of them, and a number that is laid
 -- down as bytes is read back. The missing bytes of a short list are zeros on both sides, so no law asks for a length.
-use mathlib.Core.Path.{_≡_, refl, sym, ap, ap₂, _∙_}
-use mathlib.Core.List.{List, [], _∷_, _++_}
+use mathlib.Core.Path.{_≡_, refl, sym, ap, _∙_}
+use mathlib.Core.List.{List, [], _∷_}
 use Prim.Native.Nat.{ℕ, zero, suc, _+_, _-_, _*_, _/_, _%_, _^_, _<_}
 use native.Mathlib.Nat.{add-comm, mul-comm, mod-one, zero-lt-suc, pow-suc, le-of-lt}
 use native.Mathlib.Omega.{arith}

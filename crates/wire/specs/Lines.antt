@@ -1,6 +1,6 @@
 -- Of 01's twelve lines, those that these definitions show by computing.
 use mathlib.Core.Path.{_≡_, refl}
-use mathlib.Core.List.{List, [], _∷_}
+use mathlib.Core.List.{[], _∷_}
 use Rattle.wire.specs.Crc.{_⊕_, shift, shifts, byteIn, crcFrom, complement, crcUpdate, crc32}
 use Rattle.wire.specs.Header.{requestMagic, replyMagic, checksumOf}
 

@@ -1,6 +1,5 @@
 -- The number of the text rises by four each turn, and there are at most 1,000.
 use borrow.Author.Needs.{needs}
-use native.Mathlib.Omega.{arith}
 use Prim.Native.Nat.{_≤_, _-_, _+_}
 use Rattle.leaves.proofs.texts.Statement.{statement}
 use Rattle.leaves.proofs.texts.Tie as tie

@@ -1,6 +1,6 @@
 -- The list's last byte stands for every later call; an empty list has no byte but 0.
 use denote.Ref.{now}
-use mathlib.Core.Path.{_≡_, refl, sym, ap, _∙_}
+use mathlib.Core.Path.{_≡_}
 use native.Mathlib.Omega.{arith}
 use Prim.Native.Nat.{ℕ, _-_, min}
 use lib.ListN.{length, List·getD-eq-default}

@@ -1,6 +1,6 @@
 -- A call that may not be made leaves the room; else the part of the chip is laid over all of it.
 use denote.Ref.{now}
-use mathlib.Core.Path.{_≡_, refl, sym, _∙_}
+use mathlib.Core.Path.{refl, sym, _∙_}
 use native.Mathlib.Omega.{arith}
 use Prim.Native.Nat.{_+_}
 use borrow.Author.Tests.{not-true, not-false}

@@ -1,6 +1,5 @@
 -- A page's number times its size is at most the address, and is where the page starts.
 use native.Mathlib.Omega.{arith}
-use borrow.Author.Needs.{needs}
 use native.Mathlib.Nat.{div-mul-le-self}
 use Rattle.storage.proofs.NandMoves.{start-is}
 use Rattle.storage.proofs.nand.page_start.Statement.{statement}

@@ -1,12 +1,10 @@
 -- What is left of the room, with what was counted and read before it, gives the same answer as all of it from the start.
 use denote.Ref.{now}
-use mathlib.Core.Path.{_≡_, refl, sym, ap, _∙_}
-use mathlib.Core.List.{List, _++_}
-use Prim.Native.Nat.{ℕ, _+_, _-_, _≤_, min}
+use mathlib.Core.Path.{_≡_, refl}
+use Prim.Native.Nat.{_+_, _-_, _≤_}
 use native.Mathlib.Omega.{arith}
-use borrow.Author.Tests.{not-true, not-false}
-use lib.ListN.{length, take, drop, length-take, length-drop}
-use Rattle.storage.specs.World.{lent, dev, told, seen}
+use lib.ListN.{length, drop, length-take, length-drop}
+use Rattle.storage.specs.World.{lent, dev}
 use Rattle.storage.specs.Nor.{pagesOf}
 use Rattle.storage.specs.Scratch.{inK}
 use Rattle.storage.proofs.Scratches.{rest-of, in-start, in-end, in-few, in-stop, in-again}

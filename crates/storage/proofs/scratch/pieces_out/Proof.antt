@@ -1,14 +1,11 @@
 -- What is left of the bytes, with what was counted, gives the same answer as all of them from the start.
 use borrow.Author.Needs.{needs}
 use denote.Ref.{now}
-use mathlib.Core.Path.{_≡_, refl, sym, ap, _∙_}
-use mathlib.Core.List.{List}
-use Prim.Native.Nat.{ℕ, _+_, _-_, _≤_, _<_, _^_, min}
-use native.Mathlib.Nat.{add-zero}
+use mathlib.Core.Path.{_≡_, refl}
+use Prim.Native.Nat.{_-_, _≤_}
 use native.Mathlib.Omega.{arith}
-use lib.ListN.{length, take, drop, length-take, length-drop, drop-of-length-le}
-use lib.Seq.{drop-drop, length-take-le}
-use Rattle.storage.specs.World.{lent, Dev, dev, Told, told}
+use lib.ListN.{length, drop}
+use Rattle.storage.specs.World.{lent, dev}
 use Rattle.storage.specs.Nor.{pagesOf}
 use Rattle.storage.specs.Scratch.{plus, outK}
 use Rattle.storage.proofs.Scratches.{plus-none, out-end, out-few, out-stop, out-again}

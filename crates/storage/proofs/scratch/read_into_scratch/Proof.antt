@@ -1,12 +1,11 @@
 -- Refused where the tests fail, nothing from a place past scratch's end; else the part of scratch is filled in pieces.
 use denote.Ref.{now}
-use mathlib.Core.Path.{_≡_, refl, sym, ap, _∙_}
-use mathlib.Core.List.{List, _++_}
-use Prim.Native.Nat.{ℕ, _+_, _-_, _≤_, min}
+use mathlib.Core.Path.{ap}
+use Prim.Native.Nat.{ℕ, _+_, _-_}
 use native.Mathlib.Omega.{arith}
 use borrow.Author.Tests.{not-true, not-false}
-use lib.ListN.{length, take, drop, length-take, length-drop}
-use Rattle.storage.specs.World.{lent, dev, told, seen}
+use lib.ListN.{drop, length-take, length-drop}
+use Rattle.storage.specs.World.{lent, dev}
 use Rattle.storage.proofs.Scratches.{into-none, into-past, into-told}
 use borrow.Author.Needs.{needs}
 use Rattle.storage.proofs.scratch.read_into_scratch.Statement.{statement}

@@ -1,12 +1,9 @@
 -- Refused where the tests fail, nothing from a place past scratch's end; else the part of scratch goes out in pieces.
 use denote.Ref.{now}
-use mathlib.Core.Path.{_≡_, refl, sym, ap, _∙_}
-use mathlib.Core.List.{List, _++_}
-use Prim.Native.Nat.{ℕ, _+_, _-_, _≤_, min}
-use native.Mathlib.Omega.{arith}
+use mathlib.Core.Path.{ap}
+use Prim.Native.Nat.{ℕ, _+_, _-_}
 use borrow.Author.Tests.{not-true, not-false}
-use lib.ListN.{length, take, drop, length-take, length-drop}
-use Rattle.storage.specs.World.{lent, dev, told, seen}
+use Rattle.storage.specs.World.{lent, dev}
 use Rattle.storage.proofs.Scratches.{from-none, from-past, from-told}
 use borrow.Author.Needs.{needs}
 use Rattle.storage.proofs.scratch.write_from_scratch.Statement.{statement}

@@ -1,13 +1,11 @@
 -- Refused where the tests fail; else what the function of the kind leaves.
 use denote.Ref.{now}
-use mathlib.Core.Path.{_≡_, refl, sym, ap, _∙_}
-use mathlib.Core.List.{List}
-use Prim.Native.Nat.{ℕ}
+use mathlib.Core.Path.{_∙_}
 use borrow.Author.Tests.{not-true, not-false}
-use Rattle.storage.specs.World.{lent, Dev, dev, Out, out, Told, told, report, Seen, seen}
+use Rattle.storage.specs.World.{lent, dev, told}
 use Rattle.storage.specs.Nor as NorOf
 use Rattle.storage.specs.Nand as NandOf
-use Rattle.storage.proofs.Stores.{by-none, by-nor, by-nand, reports, room, shaped}
+use Rattle.storage.proofs.Stores.{by-none, by-nor, by-nand, room, shaped}
 use Rattle.storage.specs.Store.{writing}
 use borrow.Author.Needs.{needs}
 use Rattle.storage.proofs.store.write.Statement.{statement}

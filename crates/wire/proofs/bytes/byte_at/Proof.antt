@@ -2,7 +2,6 @@
 use mathlib.Core.Path.{sym}
 use lib.Dec.{lit<}
 use lib.ListN.{List·getD-eq-default}
-use native.Mathlib.Omega.{arith}
 use borrow.Author.Needs.{needs}
 use Rattle.wire.proofs.bytes.byte_at.Statement.{statement}
 use Rattle.wire.proofs.bytes.byte_at.Tie as tie

@@ -1,7 +1,6 @@
 -- The sum of the four bytes is the word, by `four`; each is below 256, so the sum fits.
 use native.Mathlib.Omega.{arith}
 use Rattle.wire.proofs.Words.{four}
-use mathlib.Core.Path.{_≡_, refl, sym, ap, _∙_}
 use borrow.Author.Needs.{needs}
 use Rattle.wire.proofs.bytes.front.Statement.{statement}
 use Rattle.wire.proofs.bytes.front.Tie as tie

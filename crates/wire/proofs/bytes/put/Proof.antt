@@ -1,5 +1,4 @@
 -- Where the bytes do not fit nothing is touched; else the part from `at` on becomes them.
-use mathlib.Core.Path.{_≡_, refl, sym, ap, ap₂, _∙_}
 use native.Mathlib.Omega.{arith}
 use Rattle.wire.proofs.Copies.{laid-not, laid-part}
 use Rattle.wire.proofs.Copies.{laid-not}

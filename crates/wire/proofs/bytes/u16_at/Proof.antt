@@ -1,13 +1,12 @@
 -- Past the end nothing is left; else the word is the lower half of four bytes from there on.
-use mathlib.Core.Path.{_≡_, refl, sym, ap, ap₂, _∙_}
-use Prim.Native.Nat.{ℕ, _+_, _*_, _%_}
+use mathlib.Core.Path.{ap, _∙_}
+use Prim.Native.Nat.{ℕ, _+_, _%_}
 use mathlib.Core.List.{List}
-use native.Mathlib.Omega.{arith}
 use lib.ListN.{drop, take}
 use lib.Seq.{getD-drop}
 use Rattle.wire.specs.Bytes.{le, wordAt}
 use Rattle.wire.proofs.Words.{two, past, rest}
-use lib.ListN.{drop, take, drop-of-length-le}
+use lib.ListN.{drop, take}
 use Rattle.wire.proofs.Words.{two, past}
 use borrow.Author.Needs.{needs}
 use Rattle.wire.proofs.bytes.u16_at.Statement.{statement}

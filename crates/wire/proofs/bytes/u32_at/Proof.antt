@@ -1,8 +1,7 @@
 -- Past the end nothing is left; else the word is that of four bytes from there on.
-use mathlib.Core.Path.{_≡_, refl, sym, ap, ap₂, _∙_}
-use Prim.Native.Nat.{ℕ, _+_, _*_, _%_}
+use mathlib.Core.Path.{ap, _∙_}
+use Prim.Native.Nat.{ℕ}
 use mathlib.Core.List.{List}
-use native.Mathlib.Omega.{arith}
 use lib.ListN.{take}
 use Rattle.wire.specs.Bytes.{le, wordAt}
 use Rattle.wire.proofs.Words.{past, rest}

@@ -1,16 +1,14 @@
 -- Past the end nothing is left; else the word is that of four bytes from there on and of four behind them, which are
 -- zeros where the list has ended.
-use mathlib.Core.Path.{_≡_, refl, sym, ap, ap₂, _∙_}
-use Prim.Native.Nat.{ℕ, _+_, _*_, _%_}
+use mathlib.Core.Path.{ap, ap₂, _∙_}
+use Prim.Native.Nat.{ℕ, _+_, _*_}
 use mathlib.Core.List.{List}
-use native.Mathlib.Omega.{arith}
 use lib.ListN.{take}
 use Rattle.wire.specs.Bytes.{le, wordAt}
 use Rattle.wire.proofs.Words.{past, rest, eight-short, eight-at}
 use Prim.Native.Nat.{ℕ, _+_, _*_}
-use lib.ListN.{drop, take, drop-of-length-le}
-use lib.Seq.{drop-drop}
-use Rattle.wire.proofs.Words.{halves, past, eight-short, eight-at}
+use lib.ListN.{take}
+use Rattle.wire.proofs.Words.{past, eight-short, eight-at}
 use borrow.Author.Needs.{needs}
 use Rattle.wire.proofs.bytes.u64_at.Statement.{statement}
 use Rattle.wire.proofs.bytes.u64_at.Tie as tie

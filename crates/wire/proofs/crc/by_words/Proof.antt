@@ -1,11 +1,9 @@
 -- What is left of the bytes gives the register the same end as all of them from the start; the loop stops at the last
 -- multiple of eight.
-use mathlib.Core.Path.{_≡_, refl, sym, ap, ap₂, _∙_}
+use mathlib.Core.Path.{_≡_, refl, ap, _∙_}
 use Prim.Native.Nat.{ℕ, _+_, _-_, _*_, _/_, _%_, _^_, _≤_, _<_}
-use mathlib.Core.List.{List}
 use native.Mathlib.Omega.{arith}
-use lib.ListN.{length, take, drop}
-use Rattle.wire.specs.Bytes.{le}
+use lib.ListN.{length, drop}
 use Rattle.wire.specs.Crc.{_⊕_, shifts, crcFrom}
 use Rattle.wire.proofs.Slices.{crc-turn}
 use borrow.Author.Needs.{needs}

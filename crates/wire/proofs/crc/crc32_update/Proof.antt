@@ -1,15 +1,14 @@
 -- The register after the whole words takes in the bytes that are left; the complement of a register is the definition's.
-use mathlib.Core.Path.{_≡_, ap, _∙_}
+use mathlib.Core.Path.{ap, _∙_}
 use Prim.Native.Nat.{ℕ, _*_, _/_}
-use mathlib.Core.List.{List}
 use native.Mathlib.Omega.{arith}
 use lib.ListN.{length}
 use Rattle.wire.specs.Crc.{crcFrom, complement, crcUpdate}
 use Rattle.wire.proofs.Register.{not-is}
 use Rattle.wire.proofs.Words.{rest}
-use mathlib.Core.Path.{_≡_, refl, sym, ap, ap₂, _∙_}
-use Prim.Native.Nat.{ℕ, _+_, _-_, _*_, _/_, _%_, _^_, _≤_, _<_}
-use lib.ListN.{length, drop}
+use mathlib.Core.Path.{ap, _∙_}
+use Prim.Native.Nat.{ℕ, _-_, _*_, _/_}
+use lib.ListN.{length}
 use borrow.Author.Needs.{needs}
 use Rattle.wire.proofs.crc.crc32_update.Statement.{statement}
 use Rattle.wire.proofs.crc.crc32_update.Tie as tie

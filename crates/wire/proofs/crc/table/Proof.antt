@@ -2,8 +2,6 @@
 use Rattle.wire.specs.Crc.{_⊕_, shift, shifts}
 use Rattle.wire.specs.Table.{tableOf}
 use Rattle.wire.proofs.Tables.{eightMore, each, stack, slices}
-use mathlib.Core.Path.{refl}
-use Rattle.wire.specs.Slices.{entry, sliceTable}
 use Rattle.wire.proofs.crc.table.Statement.{statement}
 use Rattle.wire.proofs.crc.table.Tie as tie
 

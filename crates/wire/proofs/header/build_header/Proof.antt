@@ -1,6 +1,6 @@
 -- The casts are the bytes of the definition, by computing, once the sum is the definition's.
 use mathlib.Core.Path.{ap}
-use mathlib.Core.List.{List, [], _∷_, _++_}
+use mathlib.Core.List.{[], _∷_, _++_}
 use Prim.Native.Nat.{ℕ}
 use Rattle.wire.specs.Bytes.{bytesOf}
 use Rattle.wire.specs.Header.{headerOf}

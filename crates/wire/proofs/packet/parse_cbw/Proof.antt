@@ -1,6 +1,4 @@
 -- Each return is a case of the definition: too short, another signature, or read.
-use mathlib.Core.Path.{_≡_, refl, sym, ap, ap₂, _∙_}
-use native.Mathlib.Omega.{arith}
 use Rattle.wire.proofs.Headers.{cbw-short, cbw-other, cbw-read}
 use borrow.Author.Needs.{needs}
 use Rattle.wire.proofs.packet.parse_cbw.Statement.{statement}
