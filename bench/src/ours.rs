@@ -2,98 +2,12 @@
 
 use crate::{BASE, CHIP, Side};
 
-/// A slice of include/lamjhotu.h: a pointer and how many elements lie behind it.
-macro_rules! part {
-    ($slice:expr) => {
-        ($slice.as_ptr(), $slice.len())
-    };
+/// What include/lamjhotu.h declares.
+#[allow(dead_code)]
+mod lamjhotu {
+    include!("../../include/lamjhotu.rs");
 }
-
-unsafe extern "C" {
-    fn lamjhotu_record_len() -> usize;
-    fn lamjhotu_crc32(crc: u32, bytes: *const u8, len: usize) -> u32;
-    fn lamjhotu_open_nor(
-        record: *mut u8,
-        record_len: usize,
-        request: *const u8,
-        request_len: usize,
-        reply: *const u8,
-        reply_len: usize,
-        chip: *const u8,
-        chip_len: usize,
-        buffer: *const u8,
-        buffer_len: usize,
-        offsets: *const u64,
-        offsets_len: usize,
-        sizes: *const u64,
-        sizes_len: usize,
-        lens: *const u64,
-        lens_len: usize,
-        names: *const u8,
-        names_len: usize,
-        base: u32,
-        scratch: *const u8,
-        scratch_len: usize,
-        stage: u8,
-        device: u32,
-    ) -> u8;
-    fn lamjhotu_write(
-        record: *mut u8,
-        record_len: usize,
-        request: *mut u8,
-        request_len: usize,
-        faults: *const u8,
-        faults_len: usize,
-        marks: *const u8,
-        marks_len: usize,
-        offsets: *const u64,
-        offsets_len: usize,
-        sizes: *const u64,
-        sizes_len: usize,
-        lens: *const u64,
-        lens_len: usize,
-        names: *const u8,
-        names_len: usize,
-        table: *const u8,
-        table_len: usize,
-        chip: *mut u8,
-        chip_len: usize,
-        buffer: *mut u8,
-        buffer_len: usize,
-        scratch: *mut u8,
-        scratch_len: usize,
-        reply: *mut u8,
-        reply_len: usize,
-        bytes: *const u8,
-        bytes_len: usize,
-    ) -> u8;
-    fn lamjhotu_read(
-        record: *mut u8,
-        record_len: usize,
-        request: *const u8,
-        request_len: usize,
-        reply: *const u8,
-        reply_len: usize,
-        chip: *const u8,
-        chip_len: usize,
-        buffer: *const u8,
-        buffer_len: usize,
-        scratch: *const u8,
-        scratch_len: usize,
-        marks: *const u8,
-        marks_len: usize,
-        offsets: *const u64,
-        offsets_len: usize,
-        sizes: *const u64,
-        sizes_len: usize,
-        lens: *const u64,
-        lens_len: usize,
-        names: *const u8,
-        names_len: usize,
-        room: *mut u8,
-        room_len: usize,
-    ) -> u32;
-}
+use lamjhotu::*;
 
 /// An engine over a NOR with the partition `app`, and all that is lent to it.
 pub struct Ours {

@@ -5,7 +5,7 @@ pub const NOR: u8 = 0;
 pub const NAND: u8 = 1;
 
 /// The fields in the order of the body. The lists and bytes carry their own numbers.
-#[derive(Clone, Debug, Default)]
+#[derive(Clone, Debug, Default, PartialEq, Eq)]
 pub struct Opening {
     pub device: u8,
     pub fill: u8,

@@ -364,7 +364,8 @@ fn on_engine(engine: &mut Engine<'_>, state: &mut State, record: Record<'_>) -> 
     })
 }
 
-fn with_hex(word: &str, bytes: &[u8]) -> String {
+/// A word, the count of bytes, and the bytes if any.
+pub fn with_hex(word: &str, bytes: &[u8]) -> String {
     let mut line = format!("{word} {}", bytes.len());
     if !bytes.is_empty() {
         line.push(' ');

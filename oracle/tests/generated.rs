@@ -4,7 +4,7 @@
 use std::sync::Mutex;
 
 use harness::make::{Plan, session};
-use harness::record::{Next, Reader};
+use harness::record::{Next, OPEN_STORAGE, PACKET, Reader};
 use harness::run::{Options, run};
 
 /// Two runs can't have scratch at the same address.
@@ -48,6 +48,29 @@ fn the_short_ranges() {
         assert!(tally.skips.is_empty() && tally.panics.is_empty(), "{part}");
         answered(&input, &String::from_utf8(out).unwrap());
     }
+}
+
+/// The kind exhaustive-engine has no packets and no storages, and all the rest.
+#[test]
+fn the_short_ranges_of_engine_calls() {
+    let _one = ONE.lock();
+    let [all, calls] = ["exhaustive", "exhaustive-engine"].map(|name| Plan::parse(name).unwrap());
+    assert_eq!(calls.count(1), 312_744);
+    let engine_only = |plan: Plan, number: u64| {
+        let input = session(1, number, plan);
+        let mut reader = Reader::new(&input);
+        while let Next::Record(record) = reader.next() {
+            if matches!(record.kind, OPEN_STORAGE | PACKET) {
+                return false;
+            }
+        }
+        true
+    };
+    assert!((0..calls.count(1)).all(|number| engine_only(calls, number)));
+    let count = (0..all.count(1))
+        .filter(|&number| engine_only(all, number))
+        .count();
+    assert_eq!(count as u64, calls.count(1));
 }
 
 /// The line numbers go from 0 to the last record without a gap.

@@ -2,11 +2,11 @@
 //!
 //!     sessions SEED COUNT KIND [whole] > RECORDS
 //!
-//! KIND is storage, engine, packets, shapes or exhaustive, with `:nor` or `:nand` behind it for one
-//! device. The sessions follow from the seed; a larger COUNT only adds some at the end. Those of the
-//! kind exhaustive are the same for every seed and count. `whole` leaves out the sessions that the
-//! Rust can't answer whole, so that its lines can be kept for the lab program. A session of the kind
-//! shapes ends the run, so only one of them is of use.
+//! KIND is storage, engine, packets, shapes, exhaustive or exhaustive-engine, with `:nor` or `:nand`
+//! behind it for one device. The sessions follow from the seed; a larger COUNT only adds some at the
+//! end. Those of the last two kinds are the same for every seed and count. `whole` leaves out the
+//! sessions that the Rust can't answer whole, so that its lines can be kept for the lab program. A
+//! session of the kind shapes ends the run, so only one of them is of use.
 
 use std::io::{BufWriter, Write, stdout};
 
@@ -29,7 +29,7 @@ fn main() {
         _ => None,
     };
     let Some(((seed, count), plan)) = parsed else {
-        let kinds = "storage|engine|packets|shapes|exhaustive";
+        let kinds = "storage|engine|packets|shapes|exhaustive|exhaustive-engine";
         eprintln!("usage: sessions SEED COUNT {kinds} [whole] > RECORDS");
         std::process::exit(2);
     };

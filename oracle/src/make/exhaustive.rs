@@ -5,7 +5,7 @@
 use std::sync::OnceLock;
 
 use super::frames::{SEND, cbw, frame, header, meta, shell};
-use super::{Input, Rng};
+use super::{Input, Kind, Plan, Rng};
 use crate::opening::{NAND, NOR, Opening};
 use crate::run::{Options, run};
 
@@ -16,7 +16,8 @@ struct Family {
     make: fn(u8, u64, &mut Input),
 }
 
-const FAMILIES: [Family; 17] = [
+/// Calls on an engine.
+const CALLS: [Family; 14] = [
     Family {
         name: "commands, engine just opened",
         count: |_| COMMANDS,
@@ -63,24 +64,9 @@ const FAMILIES: [Family; 17] = [
         make: changed_header,
     },
     Family {
-        name: "CBWs with one byte changed",
-        count: |_| 2 * 31 * 256,
-        make: changed_cbw,
-    },
-    Family {
-        name: "cuts of a short update in packets",
-        count: |_| 3 * (short_update().len() as u64 + 1),
-        make: packet_cuts,
-    },
-    Family {
-        name: "reads of a reply in two parts",
-        count: |_| 2 * 601,
-        make: reads,
-    },
-    Family {
-        name: "storage calls at every offset",
-        count: |device| LENGTHS * (small(device).chip_len as u64 + 2),
-        make: offsets,
+        name: "reads of a reply in two parts, by calls",
+        count: |_| 601,
+        make: |device, n, input| reads(device, n as u16, false, input),
     },
     Family {
         name: "windows of READ, WRITE, bdread and bdwrite about scratch",
@@ -101,6 +87,30 @@ const FAMILIES: [Family; 17] = [
         name: "replies with about 4,096 bytes of data",
         count: |_| 2 * 61,
         make: long_replies,
+    },
+];
+
+/// Packets to an engine, and calls on a storage.
+const OTHERS: [Family; 4] = [
+    Family {
+        name: "CBWs with one byte changed",
+        count: |_| 2 * 31 * 256,
+        make: changed_cbw,
+    },
+    Family {
+        name: "cuts of a short update in packets",
+        count: |_| 3 * (short_update().len() as u64 + 1),
+        make: packet_cuts,
+    },
+    Family {
+        name: "reads of a reply in two parts, by packets",
+        count: |_| 601,
+        make: |device, n, input| reads(device, n as u16, true, input),
+    },
+    Family {
+        name: "storage calls at every offset",
+        count: |device| LENGTHS * (small(device).chip_len as u64 + 2),
+        make: offsets,
     },
 ];
 
@@ -127,17 +137,26 @@ fn devices(device: Option<u8>) -> impl Iterator<Item = u8> {
         .filter(move |&d| device.is_none_or(|only| only == d))
 }
 
+/// All families, or those of calls on an engine.
+fn families(kind: Kind) -> impl Iterator<Item = &'static Family> {
+    let others = match kind {
+        Kind::ExhaustiveEngine => &[],
+        _ => &OTHERS[..],
+    };
+    CALLS.iter().chain(others)
+}
+
 /// How many sessions there are.
-pub fn count(device: Option<u8>) -> u64 {
-    devices(device)
-        .flat_map(|device| FAMILIES.iter().map(move |family| (family.count)(device)))
+pub fn count(plan: Plan) -> u64 {
+    devices(plan.device)
+        .flat_map(|device| families(plan.kind).map(move |family| (family.count)(device)))
         .sum()
 }
 
 /// The device, the family and the number inside it.
-fn find(device: Option<u8>, mut number: u64) -> (u8, &'static Family, u64) {
-    for device in devices(device) {
-        for family in &FAMILIES {
+fn find(plan: Plan, mut number: u64) -> (u8, &'static Family, u64) {
+    for device in devices(plan.device) {
+        for family in families(plan.kind) {
             let count = (family.count)(device);
             if number < count {
                 return (device, family, number);
@@ -149,14 +168,14 @@ fn find(device: Option<u8>, mut number: u64) -> (u8, &'static Family, u64) {
 }
 
 /// What a session belongs to.
-pub fn name(device: Option<u8>, number: u64) -> String {
-    let (device, family, _) = find(device, number);
+pub fn name(plan: Plan, number: u64) -> String {
+    let (device, family, _) = find(plan, number);
     let device = if device == NOR { "NOR" } else { "NAND" };
     format!("{device}, {}", family.name)
 }
 
-pub fn session(number: u64, input: &mut Input) {
-    let (device, family, number) = find(input.device, number);
+pub fn session(plan: Plan, number: u64, input: &mut Input) {
+    let (device, family, number) = find(plan, number);
     (family.make)(device, number, input);
 }
 
@@ -487,22 +506,21 @@ fn packet_cuts(device: u8, n: u64, input: &mut Input) {
 }
 
 /// A reply of 528 bytes, read by two calls or by two READs of every length up to 600 and the rest.
-fn reads(device: u8, n: u64, input: &mut Input) {
+fn reads(device: u8, room: u16, packets: bool, input: &mut Input) {
     input.open_engine(&Opening {
         scratch_len: 512,
         ..small(device)
     });
     input.poke(0, &payload(512));
-    let room = (n / 2) as u16;
     input.write(&frame(0x03, &pair(BASE, 512)));
-    if n.is_multiple_of(2) {
-        input.read(room);
-        input.read(4112);
-        input.read(4112);
-    } else {
+    if packets {
         input.packet(&cbw(1, room as u32, 2));
         input.packet(&cbw(2, 4112, 2));
         input.packet(&cbw(3, 4112, 2));
+    } else {
+        input.read(room);
+        input.read(4112);
+        input.read(4112);
     }
 }
 

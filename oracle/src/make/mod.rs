@@ -37,6 +37,8 @@ pub enum Kind {
     Shapes,
     /// All of some short ranges, whatever the seed.
     Exhaustive,
+    /// Those of them that are calls on an engine.
+    ExhaustiveEngine,
 }
 
 impl Plan {
@@ -54,6 +56,7 @@ impl Plan {
             "packets" => Kind::Packets,
             "shapes" => Kind::Shapes,
             "exhaustive" => Kind::Exhaustive,
+            "exhaustive-engine" => Kind::ExhaustiveEngine,
             _ => return None,
         };
         Some(Self { kind, device })
@@ -62,14 +65,17 @@ impl Plan {
     /// How many sessions there are where so many are asked for.
     pub fn count(self, asked: u64) -> u64 {
         match self.kind {
-            Kind::Exhaustive => exhaustive::count(self.device),
+            Kind::Exhaustive | Kind::ExhaustiveEngine => exhaustive::count(self),
             _ => asked,
         }
     }
 
-    /// What a session belongs to, for the kind that has parts.
+    /// What a session belongs to, for the kinds that have parts.
     pub fn part(self, number: u64) -> Option<String> {
-        (self.kind == Kind::Exhaustive).then(|| exhaustive::name(self.device, number))
+        match self.kind {
+            Kind::Exhaustive | Kind::ExhaustiveEngine => Some(exhaustive::name(self, number)),
+            _ => None,
+        }
     }
 }
 
@@ -81,7 +87,7 @@ pub fn session(seed: u64, number: u64, plan: Plan) -> Vec<u8> {
         ..Input::default()
     };
     match plan.kind {
-        Kind::Exhaustive => exhaustive::session(number, &mut input),
+        Kind::Exhaustive | Kind::ExhaustiveEngine => exhaustive::session(plan, number, &mut input),
         kind => fill(&mut rng, kind, &mut input),
     }
     input.bytes
@@ -93,7 +99,9 @@ fn fill(rng: &mut Rng, kind: Kind, input: &mut Input) {
         Kind::Engine => engine::session(rng, input),
         Kind::Packets => packets::session(rng, input),
         Kind::Shapes => shapes::session(rng, input),
-        Kind::Exhaustive => unreachable!("nothing there is left to the seed"),
+        Kind::Exhaustive | Kind::ExhaustiveEngine => {
+            unreachable!("nothing there is left to the seed")
+        }
     }
 }
 
