@@ -1,10 +1,10 @@
 //! An engine of the static library (include/lamjhotu.h) and all that is lent to it.
 
-use harness::crc::crc32;
+use harness::crc;
 use harness::opening::{NOR, Opening};
 use harness::record::quad;
 
-/// What include/lamjhotu.h declares.
+/// The library's functions.
 #[allow(dead_code)]
 mod lamjhotu {
     include!("../../../include/lamjhotu.rs");
@@ -40,7 +40,7 @@ impl Engine {
         if sent < SENT_LEN {
             return (REFUSED, None);
         }
-        assert_eq!(unsafe { lamjhotu_record_len() }, RECORD_LEN);
+        assert_eq!(record_len(), RECORD_LEN);
         let nor = opening.device == NOR;
         let buffer = opening.buffer_len as usize;
         let mut engine = Self {
@@ -67,106 +67,66 @@ impl Engine {
 
     fn open_nor(&mut self) -> u8 {
         let o = &self.opening;
-        unsafe {
-            lamjhotu_open_nor(
-                self.record.as_mut_ptr(),
-                self.record.len(),
-                part!(self.request).0,
-                part!(self.request).1,
-                part!(self.reply).0,
-                part!(self.reply).1,
-                part!(self.chip).0,
-                part!(self.chip).1,
-                part!(self.buffer).0,
-                part!(self.buffer).1,
-                part!(o.offsets).0,
-                part!(o.offsets).1,
-                part!(o.sizes).0,
-                part!(o.sizes).1,
-                part!(o.name_lens).0,
-                part!(o.name_lens).1,
-                part!(o.names).0,
-                part!(o.names).1,
-                o.scratch_base,
-                part!(self.scratch).0,
-                part!(self.scratch).1,
-                o.boot_stage,
-                o.media_dev_id,
-            )
-        }
+        open_nor(
+            &mut self.record,
+            &self.request,
+            &self.reply,
+            &self.chip,
+            &self.buffer,
+            &o.offsets,
+            &o.sizes,
+            &o.name_lens,
+            &o.names,
+            o.scratch_base,
+            &self.scratch,
+            o.boot_stage,
+            o.media_dev_id,
+        )
     }
 
     fn open_nand(&mut self) -> u8 {
         let o = &self.opening;
-        unsafe {
-            lamjhotu_open_nand(
-                self.record.as_mut_ptr(),
-                self.record.len(),
-                part!(self.request).0,
-                part!(self.request).1,
-                part!(self.reply).0,
-                part!(self.reply).1,
-                part!(self.chip).0,
-                part!(self.chip).1,
-                o.page.into(),
-                o.pages.into(),
-                o.blocks.into(),
-                part!(o.marks).0,
-                part!(o.marks).1,
-                o.figure,
-                part!(o.offsets).0,
-                part!(o.offsets).1,
-                part!(o.sizes).0,
-                part!(o.sizes).1,
-                part!(o.name_lens).0,
-                part!(o.name_lens).1,
-                part!(o.names).0,
-                part!(o.names).1,
-                o.scratch_base,
-                part!(self.scratch).0,
-                part!(self.scratch).1,
-                o.boot_stage,
-                o.media_dev_id,
-            )
-        }
+        open_nand(
+            &mut self.record,
+            &self.request,
+            &self.reply,
+            &self.chip,
+            o.page.into(),
+            o.pages.into(),
+            o.blocks.into(),
+            &o.marks,
+            o.figure,
+            &o.offsets,
+            &o.sizes,
+            &o.name_lens,
+            &o.names,
+            o.scratch_base,
+            &self.scratch,
+            o.boot_stage,
+            o.media_dev_id,
+        )
     }
 
     /// The status; None for a refusal.
     pub fn write(&mut self, bytes: &[u8]) -> Option<u8> {
         let before = self.clone();
         let o = &self.opening;
-        let status = unsafe {
-            lamjhotu_write(
-                self.record.as_mut_ptr(),
-                self.record.len(),
-                self.request.as_mut_ptr(),
-                self.request.len(),
-                part!(o.faults).0,
-                part!(o.faults).1,
-                part!(o.marks).0,
-                part!(o.marks).1,
-                part!(o.offsets).0,
-                part!(o.offsets).1,
-                part!(o.sizes).0,
-                part!(o.sizes).1,
-                part!(o.name_lens).0,
-                part!(o.name_lens).1,
-                part!(o.names).0,
-                part!(o.names).1,
-                part!(o.table).0,
-                part!(o.table).1,
-                self.chip.as_mut_ptr(),
-                self.chip.len(),
-                self.buffer.as_mut_ptr(),
-                self.buffer.len(),
-                self.scratch.as_mut_ptr(),
-                self.scratch.len(),
-                self.reply.as_mut_ptr(),
-                self.reply.len(),
-                part!(bytes).0,
-                part!(bytes).1,
-            )
-        };
+        let status = write(
+            &mut self.record,
+            &mut self.request,
+            &o.faults,
+            &o.marks,
+            &o.offsets,
+            &o.sizes,
+            &o.name_lens,
+            &o.names,
+            &o.table,
+            &mut self.chip,
+            &mut self.buffer,
+            &mut self.scratch,
+            &mut self.reply,
+            bytes,
+        );
         if status == REFUSED {
             assert!(*self == before, "a refused write changed bytes");
             return None;
@@ -179,34 +139,20 @@ impl Engine {
         let before = self.clone();
         let mut room = vec![FILL; room.into()];
         let o = &self.opening;
-        let count = unsafe {
-            lamjhotu_read(
-                self.record.as_mut_ptr(),
-                self.record.len(),
-                part!(self.request).0,
-                part!(self.request).1,
-                part!(self.reply).0,
-                part!(self.reply).1,
-                part!(self.chip).0,
-                part!(self.chip).1,
-                part!(self.buffer).0,
-                part!(self.buffer).1,
-                part!(self.scratch).0,
-                part!(self.scratch).1,
-                part!(o.marks).0,
-                part!(o.marks).1,
-                part!(o.offsets).0,
-                part!(o.offsets).1,
-                part!(o.sizes).0,
-                part!(o.sizes).1,
-                part!(o.name_lens).0,
-                part!(o.name_lens).1,
-                part!(o.names).0,
-                part!(o.names).1,
-                room.as_mut_ptr(),
-                room.len(),
-            )
-        };
+        let count = read(
+            &mut self.record,
+            &self.request,
+            &self.reply,
+            &self.chip,
+            &self.buffer,
+            &self.scratch,
+            &o.marks,
+            &o.offsets,
+            &o.sizes,
+            &o.name_lens,
+            &o.names,
+            &mut room,
+        );
         let refused = count == NO_COUNT;
         let rest = room.split_off(if refused { 0 } else { count as usize });
         assert!(rest.iter().all(|&byte| byte == FILL), "bytes behind a read");
@@ -219,19 +165,12 @@ impl Engine {
 
     /// False for a refusal.
     pub fn reset(&mut self) -> bool {
-        let answer = unsafe { lamjhotu_reset(self.record.as_mut_ptr(), self.record.len()) };
-        answer == DONE
+        reset(&mut self.record) == DONE
     }
 
     /// host_upgrading and reset_requested; None for a refusal.
     pub fn flags(&self) -> Option<[u8; 2]> {
-        let (record, len) = part!(self.record);
-        let flags = unsafe {
-            [
-                lamjhotu_host_upgrading(record, len),
-                lamjhotu_reset_requested(record, len),
-            ]
-        };
+        let flags = [host_upgrading(&self.record), reset_requested(&self.record)];
         (!flags.contains(&REFUSED)).then_some(flags)
     }
 
@@ -251,7 +190,7 @@ impl Engine {
             0 => "none".to_string(),
             _ => quad(&self.record[HELD_ADDRESS..]).to_string(),
         };
-        let (chip, scratch) = (crc32(&self.chip), crc32(&self.scratch));
+        let (chip, scratch) = (crc::crc32(&self.chip), crc::crc32(&self.scratch));
         format!("look {calls} {chip:08x} {scratch:08x} {held}")
     }
 }
