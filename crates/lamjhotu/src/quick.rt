@@ -149,6 +149,7 @@ fn in_stream(s: &[u8], bytes: &[u8]) -> bool
     n < word_at(s, 48)
 }
 
+// What a write's bytes are to the engine of a state.
 pub(crate) fn way_of(s: &[u8], bytes: &[u8]) -> Way
     requires { ⌜ 652 ≤ length (now s) ⌝ }
     ensures { λ r. ⌜ r ≡ wayOf (now (s .entry)) (now (bytes .entry)) ⌝ }
