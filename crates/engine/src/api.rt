@@ -154,7 +154,7 @@ pub fn all_ok(
 // ---- openings
 
 // What an opening leaves: 0 and an engine, or the number of the refusal and an engine that no later call takes.
-#[derive(Drop)]
+#[derive(Clone, Copy)]
 pub struct Opening {
     pub number: u8,
     pub e: Engine,
@@ -323,13 +323,13 @@ pub fn write(
 // ---- read
 
 // A read's answer: refused (9), or how many bytes were copied.
-#[derive(Drop)]
+#[derive(Clone, Copy)]
 pub enum Got {
     Refused,
     Count(usize),
 }
 
-#[derive(Drop)]
+#[derive(Clone, Copy)]
 pub struct Taken {
     pub got: Got,
     pub e: Engine,

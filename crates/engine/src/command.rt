@@ -125,7 +125,7 @@ pub(crate) fn long(
 }
 
 // What a command answers that has a word of four bytes or no data; `Other` for all others.
-#[derive(Drop)]
+#[derive(Clone, Copy)]
 pub enum Short {
     Other,
     Empty,
@@ -185,7 +185,7 @@ pub(crate) fn plain(
 // ---- READ and WRITE of scratch
 
 // The first eight payload bytes: address (or offset) and length.
-#[derive(Drop)]
+#[derive(Clone, Copy)]
 pub enum Pair {
     Cut,
     Both(u32, u32),

@@ -15,7 +15,7 @@ use crate::types::{Did, Engine, Frame, Left};
 use wire::header::{Header, parse_header};
 
 // What a command touches besides the reply: scratch, scratch and storage, storage, or nothing.
-#[derive(Drop)]
+#[derive(Clone, Copy)]
 pub enum Group {
     Memory,
     Shell,
@@ -74,7 +74,7 @@ fn runs(
 // ---- a frame
 
 // What a frame asks for: its command and how many bytes of data it has; `Bad` where it is cut.
-#[derive(Drop)]
+#[derive(Clone, Copy)]
 pub enum Order {
     Bad,
     Run(u8, usize),

@@ -14,7 +14,7 @@ use wire::header::{Header, parse_header};
 
 // What a header asks for: nothing that is taken (1a, 1b), a stream of so many bytes, or a frame of so
 // many in all.
-#[derive(Drop)]
+#[derive(Clone, Copy)]
 pub enum Next {
     Refused,
     Send(u32),

@@ -1,6 +1,8 @@
 // The upgrade engine, from protocol.rs and shell.rs: api has its public calls, bus those on the caller's
 // own record, feed cuts a write into turns, frame gathers, exec and the files of commands execute,
 // stream takes an update's payload.
+#![tactic(auto)]
+
 pub mod api;
 pub mod bus;
 pub mod command;

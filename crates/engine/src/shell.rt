@@ -15,7 +15,7 @@ use wire::bytes::{le4, put, u32_at};
 // ---- the line of a RUN_SHELL_STR payload
 
 // How many bytes the line has that a payload holds behind their count; `Bad` where they are not all there, or are not UTF-8.
-#[derive(Drop)]
+#[derive(Clone, Copy)]
 pub enum Text {
     Bad,
     Len(usize),
@@ -59,7 +59,7 @@ pub fn is_reset(line: &[u8]) -> bool
 // ---- what a line asks for
 
 // What a command word asks for; `Other` for a word that is no command.
-#[derive(Drop)]
+#[derive(Clone, Copy)]
 enum Word {
     Other,
     Done,
@@ -70,7 +70,7 @@ enum Word {
 }
 
 // What a line asks for: nothing that is known (`Bad`), nothing to do (`Done`), or a command with its numbers.
-#[derive(Drop)]
+#[derive(Clone, Copy)]
 pub enum Line {
     Bad,
     Done,
@@ -81,14 +81,14 @@ pub enum Line {
 }
 
 // A number at a place of a line and the place of the token behind it, if a number stands there.
-#[derive(Drop)]
+#[derive(Clone, Copy)]
 enum Next {
     Bad,
     Number(u64, Place),
 }
 
 // Three numbers, if they are there.
-#[derive(Drop)]
+#[derive(Clone, Copy)]
 enum Three {
     Bad,
     All(u64, u64, u64),
@@ -242,7 +242,7 @@ pub fn parse(line: &[u8]) -> Line
 // ---- the buffer of a line in scratch
 
 // The part of scratch that an address and a length name.
-#[derive(Drop)]
+#[derive(Clone, Copy)]
 pub enum Window {
     Out,
     At { place: usize, len: usize },

@@ -17,7 +17,7 @@ use wire::header::{Header, parse_header};
 
 // What the bytes of a write ask for where they are one header and no more: a status query that touches
 // nothing but the reply, or anything else.
-#[derive(Drop)]
+#[derive(Clone, Copy)]
 pub enum Alone {
     Other,
     Query(u8),
@@ -53,7 +53,7 @@ pub fn alone_of(bytes: &[u8]) -> Alone
 }
 
 // What the answer to a query leaves: the status of its write, and the length of the reply.
-#[derive(Drop)]
+#[derive(Clone, Copy)]
 pub struct Answered {
     pub status: u8,
     pub len: usize,

@@ -179,7 +179,7 @@ fn erase_storage(
 // ---- SET_FWC_META
 
 // Where the payload of an update goes: nowhere, to a partition's start, or to one that is not known.
-#[derive(Drop)]
+#[derive(Clone, Copy)]
 pub enum Target {
     None,
     At(u64),

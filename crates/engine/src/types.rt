@@ -3,14 +3,14 @@
 use storage::types::Store;
 
 // The request room: how many bytes are gathered, and how many the frame has (0 while its header is not whole).
-#[derive(Drop)]
+#[derive(Clone, Copy)]
 pub struct Frame {
     pub len: usize,
     pub total: usize,
 }
 
 // The reply room: how many bytes wait, and how many were read of them.
-#[derive(Drop)]
+#[derive(Clone, Copy)]
 pub struct Said {
     pub len: usize,
     pub pos: usize,
@@ -18,7 +18,7 @@ pub struct Said {
 
 // The update record, `FwcState`: the metadata and whether they are valid; whether there is a target, and
 // where; bytes written, their checksum, the burn and the run result; and what is left of the stream.
-#[derive(Drop)]
+#[derive(Clone, Copy)]
 pub struct Update {
     pub meta: [u8; 512],
     pub valid: bool,
@@ -33,7 +33,7 @@ pub struct Update {
 
 // `upgrading` and `asked` are `host_upgrading` and `reset_requested`; `base` is where scratch starts for
 // the host.
-#[derive(Drop)]
+#[derive(Clone, Copy)]
 pub struct Engine {
     pub frame: Frame,
     pub said: Said,
@@ -45,7 +45,7 @@ pub struct Engine {
 }
 
 // What a step leaves: the status of a write (0 done, 1 refused or failed, 9), and the record.
-#[derive(Drop)]
+#[derive(Clone, Copy)]
 pub struct Did {
     pub status: u8,
     pub e: Engine,
@@ -53,7 +53,7 @@ pub struct Did {
 
 // How a command ended: with so many bytes of data behind the header's place, failed, not known, or with
 // more data than a reply takes.
-#[derive(Drop)]
+#[derive(Clone, Copy)]
 pub enum Ended {
     Ok(u32),
     Fail,
@@ -62,14 +62,14 @@ pub enum Ended {
 }
 
 // What a command leaves: how it ended, and the record.
-#[derive(Drop)]
+#[derive(Clone, Copy)]
 pub struct Left {
     pub ended: Ended,
     pub e: Engine,
 }
 
 // What a turn of a write leaves: its status, the place of the next byte, and the record.
-#[derive(Drop)]
+#[derive(Clone, Copy)]
 pub struct Moved {
     pub status: u8,
     pub off: usize,

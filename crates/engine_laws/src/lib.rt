@@ -1,1 +1,2 @@
 // No code: the laws of the engine over several calls are theorems in specs/.
+#![tactic(auto)]

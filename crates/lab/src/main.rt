@@ -3,6 +3,8 @@
 // body); a line is printed for each. Its stored input and output were made by the Rust (oracle/).
 // Kinds: 16 opens a storage and 17 an engine; 32 to 38 are calls on a storage; 1 to 5 calls on an engine
 // (write, read, reset, packet, flags); 39 sets bytes of scratch, 40 looks.
+#![tactic(auto)]
+
 mod engines;
 mod lines;
 mod open;

@@ -6,7 +6,7 @@ use wire::bytes::{u16_at, u32_at, u64_at};
 
 // The numbers of an opening's body; the last seven say how much of each list and of each run of bytes
 // stands behind them.
-#[derive(Drop)]
+#[derive(Clone, Copy)]
 pub struct Opening {
     pub device: u8,
     pub fill: u8,

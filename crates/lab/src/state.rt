@@ -7,7 +7,7 @@ use transport::port::{Port, start};
 
 // What is open: nothing (0), a storage (16) or an engine (17), its opening, its record and the state of its
 // packets. A storage's record stands where an engine has its own; its packets stay as they start.
-#[derive(Drop)]
+#[derive(Clone, Copy)]
 pub struct Lab {
     pub open: u16,
     pub o: Opening,
@@ -16,7 +16,7 @@ pub struct Lab {
 }
 
 // What a record leaves, and whether the run goes on.
-#[derive(Drop)]
+#[derive(Clone, Copy)]
 pub struct Stepped {
     pub go: bool,
     pub lab: Lab,

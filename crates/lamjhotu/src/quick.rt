@@ -122,7 +122,7 @@ fn idle(s: &[u8]) -> bool
 
 // What a write is to an engine in bounds: a query alone, a piece that does not end its stream, or anything
 // else.
-#[derive(Drop)]
+#[derive(Clone, Copy)]
 pub enum Way {
     Query(u8),
     Piece,

@@ -1,6 +1,8 @@
 // Runs the functions of `wire` and `text` on stored inputs and prints what they answer, a line for
 // each record; what they must answer stands in `stdout` (oracle/leaves makes both files). The kinds
 // are those of `one`.
+#![tactic(auto)]
+
 ghost use Rattle.std.specs.Prelude.{◌+◌, ◌≤◌, ◌<◌, length};
 
 use record::Next;

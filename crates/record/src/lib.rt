@@ -1,5 +1,7 @@
 // What the programs share: records read from standard input, and the pieces of a line that is
 // printed. A record is a u32 body length, a u16 kind and the body, little-endian.
+#![tactic(auto)]
+
 ghost use Rattle.std.specs.Prelude.{◌≡◌, ◌+◌, ◌*◌, ◌≤◌, ◌<◌, min, length};
 ghost use Rattle.record.specs.Record.{Within};
 
@@ -8,7 +10,7 @@ use wire::bytes::{u16_at, u32_at};
 
 // What standard input has next: a record whose body stands at the start of the room, nothing that
 // makes a record, or its end.
-#[derive(Drop)]
+#[derive(Clone, Copy)]
 pub enum Next {
     Record { kind: u16, length: usize },
     Bad,

@@ -1,5 +1,7 @@
 // The program of 01's section 'The replay program': one box, whose engine gets the records of standard
 // input (u32 body length, u16 kind, body) as writes, reads, resets and packets, a line printed for each.
+#![tactic(auto)]
+
 ghost use Rattle.std.specs.Prelude.{◌≡◌, min};
 
 use engine::api::Got;
@@ -9,7 +11,7 @@ use transport::port::{Mode, Port};
 use wire::bytes::u16_at;
 
 // The two states, and whether the next record is looked at.
-#[derive(Drop)]
+#[derive(Clone, Copy)]
 struct Box {
     on: bool,
     e: Engine,

@@ -1,4 +1,6 @@
 // Partitions, modelled chips and the buffering over them, from storage.rs: what the engine stands on.
+#![tactic(auto)]
+
 pub mod buffering;
 pub mod chip;
 pub mod nand;

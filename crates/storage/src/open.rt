@@ -8,7 +8,7 @@ use crate::partition::{Table, larger, lists_ok, table_of};
 use crate::types::{Erased, Kind, Shape, Store};
 
 // A store that was opened, or the number of the refusal.
-#[derive(Drop)]
+#[derive(Clone, Copy)]
 pub enum Opened {
     Ready(Store),
     Refused(u8),

@@ -8,7 +8,7 @@ use text::trim::trim;
 use text::utf8::is_utf8;
 
 // Where a named partition starts, if there is one; `Refused` (9) for lists that opening would refuse.
-#[derive(Drop)]
+#[derive(Clone, Copy)]
 pub enum Found {
     At(u64),
     Nothing,
@@ -16,7 +16,7 @@ pub enum Found {
 }
 
 // What the lists say as a whole: that opening would refuse them, or the largest end of a partition.
-#[derive(Drop)]
+#[derive(Clone, Copy)]
 pub enum Table {
     Bad,
     Ends(u64),

@@ -1,6 +1,6 @@
 -- Laws of the grammar of UTF-8 (RFC 3629, section 4): rows of ranges, characters, runs of characters.
 -- Assumes nothing.
-use Rattle.core.specs.Prelude.{◌≡◌, ℕ, zero, suc, ◌+◌, ◌<◌, ◌≤◌, Bool, true, false, cond, ◌&&◌, List, [], ◌∷◌, ◌++◌, length, get_or, drop}
+use Rattle.std.specs.Prelude.{◌≡◌, ℕ, zero, suc, ◌+◌, ◌<◌, ◌≤◌, Bool, true, false, cond, ◌&&◌, List, [], ◌∷◌, ◌++◌, length, get_or, drop}
 use mathlib.Core.Path.{refl, sym, ap, ◌∙◌}
 use mathlib.Core.Bool.{false≢true, and-true, and_assoc}
 use Prim.Native.Nat.{zero-le, suc-le-suc}
@@ -67,7 +67,7 @@ pub rule-none : (n : ℕ) (s : List ℕ) → 0 ≡ first_of n [] s
 unfolding first_of
 rule-none n s = refl
 
-pub ruleset rules = (rule-hit, rule-miss, rule-none, last)
+pub ruleset char_rules = (rule-hit, rule-miss, rule-none, last)
 
 -- the rule numbered n: its rows have n octets, of which the first lies from lo to hi
 abbrev pub RowsIn : ℕ → ℕ → ℕ → List (List Range) → Type 0

@@ -1,7 +1,7 @@
 -- `is_utf8` is true of just the lists that the grammar of RFC 3629 derives: `rfc3629`. The octets that a rule's rows begin with lie
 -- before those of the next rule, so at most one rule fits, and a character that stands in front is the one that is measured.
 -- Assumes nothing.
-use Rattle.core.specs.Prelude.{◌≡◌, ℕ, zero, suc, ◌+◌, ◌<◌, ◌≤◌, Bool, true, false, cond, ◌||◌, leb, ◌↔◌, List, [], ◌∷◌, ◌++◌, length, get_or, take, drop}
+use Rattle.std.specs.Prelude.{◌≡◌, ℕ, zero, suc, ◌<◌, ◌≤◌, Bool, true, false, cond, ◌||◌, leb, ◌↔◌, List, [], ◌∷◌, ◌++◌, length, get_or, take, drop}
 use mathlib.Core.Path.{refl, sym, ap, ◌∙◌, subst}
 use mathlib.Core.Bool.{false≢true}
 use native.Mathlib.Omega.{arith}

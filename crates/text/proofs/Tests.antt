@@ -1,6 +1,6 @@
 -- Laws of tests: two that are joined, alternatives that are tried one after another, a front of a list that a test ends.
 -- Assumes nothing.
-use Rattle.core.specs.Prelude.{◌≡◌, ℕ, Bool, true, false, cond, ◌&&◌, ◌||◌, List, [], ◌∷◌, length, take}
+use Rattle.std.specs.Prelude.{◌≡◌, ℕ, Bool, true, false, cond, ◌&&◌, ◌||◌, List, [], ◌∷◌, length, take}
 use mathlib.Core.Path.{refl, sym, ap, ◌∙◌}
 use mathlib.Core.Bool.{false≢true, or-false}
 use Rattle.text.specs.Utf8.{any_of}

@@ -1,7 +1,7 @@
 -- Laws of runs, tokens and comparisons. Exported for the crates above: `until-length`, `until-take`, `tokens-from`,
 -- `place-bounds`, `same-equal`, `same_self`.
 -- Assumes nothing.
-use Rattle.core.specs.Prelude.{◌≡◌, ℕ, suc, ◌+◌, ◌<◌, ◌≤◌, Bool, true, false, cond, ◌&&◌, eqb, ltb, List, [], ◌∷◌, length, get_or, take, drop}
+use Rattle.std.specs.Prelude.{◌≡◌, ℕ, suc, ◌+◌, ◌<◌, ◌≤◌, Bool, true, false, cond, ◌&&◌, eqb, ltb, List, [], ◌∷◌, length, get_or, take, drop}
 use mathlib.Core.Path.{refl, sym, ap, ap₂, ◌∙◌}
 use mathlib.Core.Bool.{false≢true}
 use native.Mathlib.Nat.{not-suc-le-zero, le_of_suc-le-suc}

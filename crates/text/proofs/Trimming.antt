@@ -1,7 +1,7 @@
 -- Laws of trimming: one white space, white space at the start, the text up to the white space at its end.
 -- Lengths say where the code's parts begin and end, so most laws are equations of lengths. Exported: `trim-length`.
 -- Assumes nothing.
-use Rattle.core.specs.Prelude.{◌≡◌, ℕ, zero, suc, pred, ◌+◌, ◌-◌, ◌%◌, ◌<◌, ◌≤◌, Bool, true, false, cond, List, [], ◌∷◌, length, get_or, take, drop}
+use Rattle.std.specs.Prelude.{◌≡◌, ℕ, zero, suc, pred, ◌+◌, ◌-◌, ◌%◌, ◌<◌, ◌≤◌, Bool, true, false, cond, List, [], ◌∷◌, length, get_or, take, drop}
 use mathlib.Core.Path.{refl, sym, ap, ◌∙◌}
 use mathlib.Core.Bool.{true≢false}
 use Prim.Native.Nat.{zero-le}

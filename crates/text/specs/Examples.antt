@@ -1,7 +1,7 @@
 -- Worked examples of the definitions, each by computing: line P12 of document 01, the edges of numbers, examples of RFC 3629,
 -- white space at both ends, and an empty token.
 -- Assumes nothing.
-use Rattle.core.specs.Prelude.{◌≡◌, true, false, [], ◌∷◌}
+use Rattle.std.specs.Prelude.{◌≡◌, true, false, [], ◌∷◌}
 use Rattle.std.specs.Prelude.{refl}
 use Rattle.text.specs.Utf8.{begins, any_of, utf8_1, utf8_2, utf8_3, utf8_4, utf8_char, first_of, char_len, octets, is_utf8}
 use Rattle.text.specs.Trim.{white_space, code_point, blank_len, lead, trim_start, keep, trim_end, trim}

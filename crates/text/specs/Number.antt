@@ -1,7 +1,7 @@
 -- The number that a token says, as `number` of shell.rs reads it (document 01, "Shell"): white space at the ends aside,
 -- hexadecimal after 0x or 0X, else decimal; one + may stand before the digits; no digit, any other byte and 2^64 or more are refused.
 -- Assumes nothing.
-use Rattle.core.specs.Prelude.{ℕ, ◌+◌, ◌-◌, ◌*◌, ◌^◌, Bool, cond, List, [], ◌∷◌, drop, ◌==◌, nat_lt}
+use Rattle.std.specs.Prelude.{ℕ, ◌+◌, ◌-◌, ◌*◌, ◌^◌, Bool, cond, List, [], ◌∷◌, drop, ◌==◌, nat_lt}
 use Rattle.text.specs.Utf8.{◌–◌, only, within, begins, any_of}
 use Rattle.text.specs.Trim.{trim}
 use Rattle.text.specs.declared.number.Number.{Number}

@@ -2,7 +2,7 @@
 -- spaces, and a token may be empty. Rust's `line.split(' ')` gives the same list. Also the other parts of a text that end at a
 -- byte (the `;` and the zero byte of a partition field), and the comparisons of texts.
 -- Assumes nothing.
-use Rattle.core.specs.Prelude.{ℕ, ◌+◌, Bool, true, false, cond, ◌&&◌, List, [], ◌∷◌, length, drop, ◌==◌, nat_lt}
+use Rattle.std.specs.Prelude.{ℕ, ◌+◌, Bool, true, false, cond, ◌&&◌, List, [], ◌∷◌, length, drop, ◌==◌, nat_lt}
 use Prim.Native.Char.{code}
 use Prim.Native.String.{String, [] as []ˢ, ◌∷◌ as ◌∷ˢ◌}
 use Rattle.text.specs.declared.token.Place.{Place}

@@ -1,7 +1,7 @@
 -- White space at the two ends of a text, as `str::trim` takes it away: the code points with the property White_Space of
 -- Unicode (PropList.txt), at the start and at the end of a list of octets. It is defined for any list; on UTF-8 it is what the Rust does.
 -- Assumes nothing.
-use Rattle.core.specs.Prelude.{ℕ, zero, suc, pred, ◌+◌, ◌*◌, ◌%◌, Bool, true, false, cond, List, [], ◌∷◌, ◌==◌, slice_index, slice_index_or}
+use Rattle.std.specs.Prelude.{ℕ, zero, suc, pred, ◌+◌, ◌*◌, ◌%◌, Bool, true, false, cond, List, [], ◌∷◌, ◌==◌, slice_index, slice_index_or}
 use Rattle.text.specs.Utf8.{Range, ◌–◌, only, within, any_of, char_len}
 
 -- the code points with the property White_Space

@@ -7,7 +7,7 @@
 --     UTF8-4      = %x_f0 %x90-BF 2( UTF8-tail ) / %x_f1-F3 3( UTF8-tail ) / %x_f4 %x80-8F 2( UTF8-tail )
 --     UTF8-tail   = %x80-BF
 -- Assumes nothing.
-use Rattle.core.specs.Prelude.{◌≡◌, ℕ, zero, suc, Bool, true, false, cond, ◌&&◌, ◌||◌, List, [], ◌∷◌, ◌++◌, nat_le}
+use Rattle.std.specs.Prelude.{◌≡◌, ℕ, zero, suc, Bool, true, false, cond, ◌&&◌, ◌||◌, List, [], ◌∷◌, ◌++◌, nat_le}
 
 -- a range of numbers: %x_c2-DF is 0xC2 – 0xDF, and %x_e0 is only 0xE0
 pub data Range : Type 0 where

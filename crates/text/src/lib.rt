@@ -2,6 +2,8 @@
 // It carries what shell.rs, storage.rs and protocol.rs ask of Rust's library (`core::str::from_utf8`, `str::trim`, `split`,
 // `starts_with`, `u64::from_str_radix`), over bytes. Every answer is fixed for any bytes, and every part that is handed out is a
 // part of the caller's slice.
+#![tactic(auto)]
+
 pub mod number;
 pub mod token;
 pub mod trim;

@@ -1,11 +1,11 @@
 // The number that a token of a shell line says: `number` of shell.rs, with `str::parse` and `u64::from_str_radix` behind it.
-ghost use Rattle.core.specs.Prelude.{◌≡◌, ◌≤◌, drop};
+ghost use Rattle.std.specs.Prelude.{◌≡◌, ◌≤◌, drop};
 ghost use Rattle.text.specs.Number.{digit_of, digits, some, signed, is_hex, number_in};
 
 use crate::{trim, utf8};
 
 // What a token says: a number below 2^64, or none.
-#[derive(Drop)]
+#[derive(Clone, Copy)]
 pub enum Number {
     Value(u64),
     Bad,

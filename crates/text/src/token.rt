@@ -1,7 +1,7 @@
 // The tokens of a shell line, `line.split(' ')` of shell.rs, and the other parts of a text that end at a byte: a partition field
 // up to its first zero (protocol.rs), a name up to its first `;` (storage.rs). Each is handed out as a part of the caller's
 // slice, and the caller keeps the place where the next token starts. Also the comparisons that shell.rs makes.
-ghost use Rattle.core.specs.Prelude.{◌≡◌, ◌+◌, length, drop};
+ghost use Rattle.std.specs.Prelude.{◌≡◌, ◌+◌, length, drop};
 ghost use Rattle.text.specs.Token.{until, place_after, starts_with, same};
 
 // Where the run that starts at a place ends: at the next `stop`, or at the end.
@@ -37,7 +37,7 @@ pub fn token(line: &[u8], at: usize) -> &[u8]
 }
 
 // Where a token starts, or that there is none any more.
-#[derive(Drop)]
+#[derive(Clone, Copy)]
 pub enum Place {
     At(usize),
     Done,

@@ -1,7 +1,7 @@
 // White space at the two ends of a text: `str::trim`, which shell.rs asks of a number and storage.rs of a partition's name. White
 // space is what has the property White_Space in Unicode, so a character is measured and decoded first. Any bytes are taken:
 // an octet at which no character stands is no white space, and is passed alone.
-ghost use Rattle.core.specs.Prelude.{◌≡◌, suc, pred, ◌+◌, ◌-◌, ◌<◌, ◌≤◌, length, drop};
+ghost use Rattle.std.specs.Prelude.{◌≡◌, suc, pred, ◌+◌, ◌-◌, ◌<◌, ◌≤◌, length, drop};
 ghost use Rattle.text.specs.Utf8.{within, any_of, char_len};
 ghost use Rattle.text.specs.Trim.{white_space, ◌⊳◌, code_point, blank_len, trim_start, trim};
 

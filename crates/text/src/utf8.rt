@@ -1,7 +1,7 @@
 // UTF-8 by the grammar of RFC 3629, section 4: `core::str::from_utf8`, which protocol.rs asks of a shell
 // line and of a partition field.
 // The functions go up the grammar: an octet of a range, a row of ranges, a rule's rows, a character, a run of characters.
-ghost use Rattle.core.specs.Prelude.{◌≡◌, [], ◌∷◌, drop};
+ghost use Rattle.std.specs.Prelude.{◌≡◌, [], ◌∷◌, drop};
 ghost use Rattle.text.specs.Utf8.{◌–◌, within, tail, begins, any_of, utf8_3, utf8_4, char_len, is_utf8};
 
 // Whether a number lies in a range.

@@ -5,7 +5,7 @@ ghost use Rattle.transport.specs.Port.{idle, awaiting, closing, room_of, took};
 use engine::types::Engine;
 
 // What the next packet is: a CBW, a packet of the data stage of a WRITE, or one to a closed session.
-#[derive(Drop)]
+#[derive(Clone, Copy)]
 pub enum Mode {
     Command,
     Data,
@@ -13,7 +13,7 @@ pub enum Mode {
 }
 
 // The tag of the CBW, what is left of its data stage, and the status of the last engine write in it.
-#[derive(Drop)]
+#[derive(Clone, Copy)]
 pub struct Port {
     pub mode: Mode,
     pub tag: u32,
@@ -24,7 +24,7 @@ pub struct Port {
 // What a step leaves: 0, or 9 where it is refused; the states of transport and engine; how many bytes
 // of data stand at the front of the room of sent packets, in packets of 512, and whether a CSW stands
 // behind them, with its status and residue.
-#[derive(Drop)]
+#[derive(Clone, Copy)]
 pub struct Stepped {
     pub number: u8,
     pub port: Port,

@@ -8,7 +8,7 @@ ghost use Rattle.wire.specs.Slices.{slice_table};
 use crate::bytes::wide;
 
 // Eight rows of 256: row j holds what a byte becomes that is j bytes up in eight, once they are in.
-const TABLE: [u32; 2048] = [
+static TABLE: [u32; 2048] = [
     0x00000000, 0xccaa009e, 0x4225077d, 0x8e8f07e3, 0x844a0efa, 0x48e00e64, 0xc66f0987, 0x0ac50919,
     0xd3e51bb5, 0x1f4f1b2b, 0x91c01cc8, 0x5d6a1c56, 0x57af154f, 0x9b0515d1, 0x158a1232, 0xd92012ac,
     0x7cbb312b, 0xb01131b5, 0x3e9e3656, 0xf23436c8, 0xf8f13fd1, 0x345b3f4f, 0xbad438ac, 0x767e3832,
@@ -267,11 +267,11 @@ const TABLE: [u32; 2048] = [
     0xb3667a2e, 0xc4614ab8, 0x5d681b02, 0x2a6f2b94, 0xb40bbe37, 0xc30c8ea1, 0x5a05df1b, 0x2d02ef8d,
 ];
 
-// The table, as one value.
-fn table() -> [u32; 2048]
-    ensures { result ≡ slice_table }
+// The table, where it stands.
+fn table() -> &'static [u32; 2048]
+    ensures { result.now ≡ slice_table }
 {
-    TABLE
+    &TABLE
 }
 
 // Eight bytes from a place on, as a number.
@@ -353,6 +353,6 @@ pub fn crc32_update(crc: u32, s: &[u8]) -> u32
 {
     let t = table();
     let whole = s.len() / 8 * 8;
-    let r = by_words(&t, !crc, s);
-    !by_bytes(&t, r, &s[whole..])
+    let r = by_words(t, !crc, s);
+    !by_bytes(t, r, &s[whole..])
 }

@@ -10,7 +10,7 @@ pub const UPG_CMD_MAGIC: u32 = 0x4347_5055;
 pub const UPG_RESP_MAGIC: u32 = 0x5247_5055;
 
 // What sixteen bytes say as the header of a request.
-#[derive(Drop)]
+#[derive(Clone, Copy)]
 pub enum Header {
     Bad,
     Request {

@@ -8,7 +8,7 @@ use crate::bytes::u32_at;
 pub const CBW_MAGIC: u32 = 0x4342_5355;
 
 // What a packet says as a CBW: the tag, the length of the data stage and the transport command.
-#[derive(Drop)]
+#[derive(Clone, Copy)]
 pub enum Cbw {
     Bad,
     Command { tag: u32, length: u32, command: u8 },
