@@ -1,6 +1,6 @@
 -- Remainders by a page size that is a variable: an address within its page, at the page's end, and in the next one.
 use mathlib.Core.Path.{◌≡◌, ap, ◌∙◌}
-use Prim.Native.Nat.{ℕ, ◌+◌, ◌-◌, ◌*◌, ◌%◌, ◌/◌, ◌≤◌, ◌<◌}
+use Prim.Native.Nat.{ℕ, ◌+◌, ◌*◌, ◌%◌, ◌/◌, ◌≤◌, ◌<◌}
 use native.Mathlib.Nat.{div-add-mod', mul-add-mod_self_right, mod-eq_of_lt, mod_self, le-mul_of_pos_right}
 use native.Mathlib.Omega.{arith}
 use Rattle.storage.specs.Fold.{base}
