@@ -1,4 +1,4 @@
--- The laws of the definitions. For the functions above: `text-fits` and `window-fits` of Windows, `boot-length` of Tables. Flags has a walk by hand, which two functions of bus.rt share.
+-- The laws of the definitions. For the functions above: `text-fits` and `window-fits` of Windows, `boot-length` of Tables.
 pub mod Numbers
 pub mod Commands
 pub mod Replies
@@ -15,4 +15,3 @@ pub mod Apis
 pub mod Lines
 pub mod Windows
 pub mod Tables
-pub mod Flags

@@ -1,5 +1,5 @@
 -- A reply as the code lays it, data first and then the header, is the reply as it is defined.
-use Rattle.std.proofs.Common.{◌≡◌, ℕ, ◌+◌, ◌-◌, ◌≤◌, Bool, true, false, List, [], ◌++◌, length, take, drop, replicate, sym, refl, ap, ◌∙◌, append_assoc, zero-add, arith, length-append, length-take-le, drop_at, le-leb}
+use Rattle.std.proofs.Common.{◌≡◌, ℕ, ◌+◌, ◌≤◌, Bool, true, false, List, [], ◌++◌, length, take, drop, replicate, sym, refl, ap, ◌∙◌, append_assoc, zero-add, arith, length-append, length-take-le, drop_at, le-leb}
 use lib.ListN.{length-replicate}
 use lib.Seq.{sets, length-sets, sets-eq}
 use Rattle.wire.specs.Bytes.{bytes_of, laid}

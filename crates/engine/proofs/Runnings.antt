@@ -2,7 +2,6 @@
 use Rattle.std.proofs.Common.{◌≡◌, ℕ, ◌+◌, ◌-◌, ◌%◌, ◌^◌, ◌≤◌, Bool, true, false, ◌||◌, eqb, List, ◌++◌, length, take, drop, sym, refl, ap, ◌∙◌, subst, ap₂, append_assoc, arith, eq-eqb, ne_eqb}
 use borrow.Rule.Slice.PartMut.{put_mid, mid_len, Post-is}
 use lib.Seq.{sets, sets-eq}
-use Rattle.wire.specs.Bytes.{laid}
 use Rattle.storage.specs.declared.types.Store.{Store}
 use Rattle.storage.specs.World.{Lent, Told, told, seen, dev}
 use Rattle.storage.specs.Store.{flushing, erasing}

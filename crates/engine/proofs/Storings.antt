@@ -68,7 +68,7 @@ module _ (l : Lent) (w : World) where
     pub crc-told : t.status ≡ 0 → {f : Engine} {v : World} {y r : List ℕ} → f ≡ with_store t.dev.store w.e → y ≡ bytes_of 4 f.up.crc
         → v ≡ probed l (at_e f (at_dev t.dev w)) → r ≡ laid v.reply 16 y → left (Ok 4) (at_reply r v) ≡ going (crc_query l w)
     unfolding crc_query bytes_of
-    crc-told h a b q z = rw (← p, eq-eqb t.status 0 h, ← a, ← q, z, b)
+    crc-told h a b q z = rw (← p, eq-eqb t.status 0 h, ← a, ← q, z, b, a)
 
 -- ---- READ_FWC_DATA
 

@@ -11,7 +11,7 @@ use Rattle.engine.specs.declared.command.Short.TheVariants.{Other, Empty, Word}
 use Rattle.engine.specs.declared.command.Pair.{Pair}
 use Rattle.engine.specs.declared.command.Pair.TheVariants.{Cut, Both}
 use Rattle.engine.specs.declared.types.Ended.{Ended}
-use Rattle.engine.specs.Reply.{Answer, ok, fail, unsupported, odd, sent, ended_by}
+use Rattle.engine.specs.Reply.{Answer, ok, fail, unsupported, sent, ended_by}
 
 -- the commands that only look: they do not raise `host_upgrading` (`is_status_query`)
 abbrev pub queries : List ℕ

@@ -4,7 +4,7 @@ use Rattle.std.specs.Prelude.{◌≡◌, refl, true, List, ℕ, ◌+◌, ◌%◌
 use Rattle.std.proofs.Common.{sym, ap, subst, ◌∙◌, le_refl, arith}
 use Rattle.storage.specs.declared.types.Shape.{Shape}
 use Rattle.storage.specs.declared.types.Store.{Store}
-use Rattle.storage.specs.World.{Dev, dev}
+use Rattle.storage.specs.World.{Dev}
 use Rattle.storage.specs.Chip.{next_call}
 use Rattle.storage.specs.Fold.{run, writes}
 use Rattle.storage.specs.Nor.{flushes, loads, closes, written, erased, read_out}

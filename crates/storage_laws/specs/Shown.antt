@@ -7,7 +7,7 @@ use Rattle.storage.specs.declared.types.Kind.{Kind}
 use Rattle.storage.specs.declared.types.Kind.TheVariants.{Nor}
 use Rattle.storage.specs.declared.types.Shape.{Shape}
 use Rattle.storage.specs.declared.types.Store.{Store}
-use Rattle.storage.specs.World.{Lent, Dev, dev}
+use Rattle.storage.specs.World.{Lent, Dev}
 use Rattle.storage.specs.Chip.{next_call, over}
 use Rattle.storage.specs.Nor.{flushes, written, erased, read_out}
 use Rattle.storage.specs.Open.{by_kind}

@@ -11,7 +11,7 @@ use Rattle.std.proofs.Math.ListN.{length, length-append}
 use Rattle.std.proofs.lemmas.List.Edits.{sets, sets-eq}
 use Rattle.std.proofs.Math.Seq.{length-sets}
 use Rattle.storage.specs.declared.types.Shape.{Shape}
-use Rattle.storage.specs.World.{Dev, dev, out, Told, told}
+use Rattle.storage.specs.World.{Dev, out, Told, told}
 use Rattle.storage.specs.Fold.{Run, run, writes}
 use Rattle.storage.specs.Nor.{loads, closes, flushes, written}
 use Rattle.storage.proofs.Fold.{writes-append, reached, no_less}

@@ -1,0 +1,11 @@
+-- What is made of the three numbers, or `Bad`.
+use Rattle.std.proofs.Common.{sym, ap, ◌∙◌}
+use Rattle.engine.specs.Shell.{on_three}
+use Rattle.engine.specs.declared.shell.Line.TheVariants.{Write}
+use Rattle.engine.proofs.shell.write_from.Goals as goal
+
+pub returns-in_default : goal.returns-in_default
+returns-in_default c = ap (on_three Write) (sym c.in_default.is) ∙ c.three_from.ensures Write
+
+pub returns : goal.returns
+returns c = ap (on_three Write) (sym c.in-All.is) ∙ c.three_from.ensures Write
