@@ -31,8 +31,7 @@ use wire::crc::crc32_update;
 const NONE: u32 = 0xFFFF_FFFF;
 
 // How many bytes a state has.
-#[unsafe(no_mangle)]
-pub extern "C" fn lamjhotu_record_len() -> usize
+pub fn lamjhotu_record_len() -> usize
     ensures { result ≡ 652 }
 {
     652
@@ -40,8 +39,7 @@ pub extern "C" fn lamjhotu_record_len() -> usize
 
 // The CRC-32 of what has the checksum `crc` and of more bytes; 0 for none before them. A host checks an
 // update's checksum with it.
-#[unsafe(no_mangle)]
-pub extern "C" fn lamjhotu_crc32(crc: u32, bytes: &[u8]) -> u32
+pub fn lamjhotu_crc32(crc: u32, bytes: &[u8]) -> u32
     ensures { result ≡ crc_update crc bytes.now }
 {
     crc32_update(crc, bytes)
@@ -64,8 +62,7 @@ fn opened(state: &mut [u8], o: Opening) -> u8
 }
 
 // Opens an engine over a NOR: 0, or 01's number of the refusal.
-#[unsafe(no_mangle)]
-pub extern "C" fn lamjhotu_open_nor(
+pub fn lamjhotu_open_nor(
     state: &mut [u8],
     request: &[u8],
     reply: &[u8],
@@ -94,8 +91,7 @@ pub extern "C" fn lamjhotu_open_nor(
 }
 
 // Opens an engine over a NAND: 0, or 01's number of the refusal.
-#[unsafe(no_mangle)]
-pub extern "C" fn lamjhotu_open_nand(
+pub fn lamjhotu_open_nand(
     state: &mut [u8],
     request: &[u8],
     reply: &[u8],
@@ -227,8 +223,7 @@ fn write_whole(
 }
 
 // The bytes of a write are taken: 0 done, 1 refused or failed, or 9 where nothing is changed.
-#[unsafe(no_mangle)]
-pub extern "C" fn lamjhotu_write(
+pub fn lamjhotu_write(
     state: &mut [u8],
     request: &mut [u8],
     faults: &[u8],
@@ -300,8 +295,7 @@ fn next(state: &mut [u8], reply: &[u8], room: &mut [u8]) -> u32
 
 // The next bytes of the reply are copied into `room`, as many as wait and fit: their count, or
 // 0xFFFFFFFF where the read is refused and nothing is changed.
-#[unsafe(no_mangle)]
-pub extern "C" fn lamjhotu_read(
+pub fn lamjhotu_read(
     state: &mut [u8],
     request: &[u8],
     reply: &[u8],
@@ -340,8 +334,7 @@ pub extern "C" fn lamjhotu_read(
 // ---- reset and the flags
 
 // Request, reply, update record and stream are emptied; flags, scratch and storage stay. 0, or 9.
-#[unsafe(no_mangle)]
-pub extern "C" fn lamjhotu_reset(state: &mut [u8]) -> u8
+pub fn lamjhotu_reset(state: &mut [u8]) -> u8
     ensures { told result state.new ≡ resets state.old }
 {
     if state.len() < 652 {
@@ -352,8 +345,7 @@ pub extern "C" fn lamjhotu_reset(state: &mut [u8]) -> u8
 }
 
 // Has the host started an upgrade: 1 or 0, or 9.
-#[unsafe(no_mangle)]
-pub extern "C" fn lamjhotu_host_upgrading(state: &[u8]) -> u8
+pub fn lamjhotu_host_upgrading(state: &[u8]) -> u8
     ensures { result ≡ upgrading_of state.now }
 {
     if state.len() < 652 {
@@ -363,8 +355,7 @@ pub extern "C" fn lamjhotu_host_upgrading(state: &[u8]) -> u8
 }
 
 // Did the host ask for a reset: 1 or 0, or 9.
-#[unsafe(no_mangle)]
-pub extern "C" fn lamjhotu_reset_requested(state: &[u8]) -> u8
+pub fn lamjhotu_reset_requested(state: &[u8]) -> u8
     ensures { result ≡ asked_of state.now }
 {
     if state.len() < 652 {
