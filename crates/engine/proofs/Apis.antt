@@ -38,13 +38,13 @@ sum_below n b m h = go (ltb b (m - n)) refl
 
 -- ---- in bounds
 
-rooms-fit : (request reply : ℕ) → rooms_ok request reply ≡ true → (request ≡ 8208) × (reply ≡ 4112)
+rooms_fit : (request reply : ℕ) → rooms_ok request reply ≡ true → (request ≡ 8208) × (reply ≡ 4112)
 unfolding rooms_ok
-rooms-fit request reply e = let h = both (eqb request 8208) _ e in (eqb-true _ _ h.0, eqb-true _ _ h.1)
+rooms_fit request reply e = let h = both (eqb request 8208) _ e in (eqb-true _ _ h.0, eqb-true _ _ h.1)
 
-frame-fit : (f : Frame) → frame_ok f ≡ true → FrameFit f
+frame_fit : (f : Frame) → frame_ok f ≡ true → FrameFit f
 unfolding frame_ok
-frame-fit f = go (eqb f.total 0) refl
+frame_fit f = go (eqb f.total 0) refl
   where
     go : (t : Bool) → eqb f.total 0 ≡ t → cond t (ltb f.len 16) (ltb f.len f.total && leb f.total 8208) ≡ true → FrameFit f
     go true p e = let z = eqb-true f.total 0 p in (λ _. ltb-true _ _ e, λ n. absurd (n z), omega arith)
@@ -52,25 +52,25 @@ frame-fit f = go (eqb f.total 0) refl
         let h = both (ltb f.len f.total) _ e in
         (λ z. absurd (eqb-false _ _ p z), λ _. ltb-true _ _ h.0, leb-true _ _ h.1)
 
-said-fit : (s : Said) → said_ok s ≡ true → SaidFit s
+said_fit : (s : Said) → said_ok s ≡ true → SaidFit s
 unfolding said_ok
-said-fit s e = let h = both (leb s.pos s.len) _ e in (leb-true _ _ h.0, leb-true _ _ h.1)
+said_fit s e = let h = both (leb s.pos s.len) _ e in (leb-true _ _ h.0, leb-true _ _ h.1)
 
-up-fit : (u : Update) → up_ok u ≡ true → UpFit u
+up_fit : (u : Update) → up_ok u ≡ true → UpFit u
 unfolding up_ok
-up-fit u e = let h = both (leb u.target (2 ^ 31)) _ e in (ltb-true _ _ h.1, leb-true _ _ h.0)
+up_fit u e = let h = both (leb u.target (2 ^ 31)) _ e in (ltb-true _ _ h.1, leb-true _ _ h.0)
 
-pub world-fit : (g : Given) (w : World) → fits g w ≡ true → Fit w
+pub world_fit : (g : Given) (w : World) → fits g w ≡ true → Fit w
 unfolding fits engine_ok
-world-fit g w e =
+world_fit g w e =
     let a = both (rooms_ok (length w.request) (length w.reply)) _ e in
     let b = (both (frame_ok w.e.frame && (said_ok w.e.said && up_ok w.e.up)) _ a.1).0 in
     let c = both (frame_ok w.e.frame) _ b in
     let d = both (said_ok w.e.said) _ c.1 in
-    let r = rooms-fit (length w.request) (length w.reply) a.0 in
+    let r = rooms_fit (length w.request) (length w.reply) a.0 in
     record {
-      mid = record { request = r.0; reply = r.1; said = said-fit w.e.said d.0; up = up-fit w.e.up d.1 };
-      frame = frame-fit w.e.frame c.0;
+      mid = record { request = r.0; reply = r.1; said = said_fit w.e.said d.0; up = up_fit w.e.up d.1 };
+      frame = frame_fit w.e.frame c.0;
     }
 
 -- the rooms and the record's numbers, and then the parts
@@ -88,35 +88,35 @@ module _ (g : Given) (w : World) {t : Bool}
   pub fits_out : t ≡ false → false ≡ fits g w
   fits_out e = sym (fits_by ∙ ap (λ (b : Bool). b && parts) e)
 
-  pub fits-parts : t ≡ true → {r : Bool}
+  pub fits_parts : t ≡ true → {r : Bool}
       → r ≡ ((in_bounds w.e.store && parts_fit w.e.store (length w.chip) (length g.lent.marks) (length w.buffer)) && (lists_ok g.lists && scratch_ok w.e.base (length w.scratch)))
       → r ≡ fits g w
   unfolding good
-  fits-parts e h = h ∙ sym (fits_by ∙ ap (λ (b : Bool). b && parts) e)
+  fits_parts e h = h ∙ sym (fits_by ∙ ap (λ (b : Bool). b && parts) e)
 
 -- ---- read
 
 -- no more is copied than waits, and the reply room has that many
 pub said_in : (g : Given) (w : World) → fits g w ≡ true → SaidFit w.e.said × (length w.reply ≡ 4112)
-said_in g w e = let m = (world-fit g w e).mid in (m.said, m.reply)
+said_in g w e = let m = (world_fit g w e).mid in (m.said, m.reply)
 
-pub reads-told : (g : Given) (w : World) (room : List ℕ) {n : ℕ} {e : Engine} {x : List ℕ} → fits g w ≡ true → n ≡ min (w.e.said.len - w.e.said.pos) (length room)
+pub reads_told : (g : Given) (w : World) (room : List ℕ) {n : ℕ} {e : Engine} {x : List ℕ} → fits g w ≡ true → n ≡ min (w.e.said.len - w.e.said.pos) (length room)
     → x ≡ laid room 0 (take (w.e.said.pos + n - w.e.said.pos) (drop w.e.said.pos w.reply))
     → e ≡ with_said (record { len = w.e.said.len; pos = w.e.said.pos + n }) w.e
     → ◌≡◌ {A = Read} (record { got = got.Count n; e = e; room = x }) (reads g w room)
 unfolding reads laid
-reads-told g w room {n} f p q r =
+reads_told g w room {n} f p q r =
     let k : w.e.said.pos + n - w.e.said.pos ≡ n = omega arith in
     let i : 0 + length (take n (drop w.e.said.pos w.reply)) ≤ length room = omega (arith, length-take n (drop w.e.said.pos w.reply)) in
     rw (q, k, le-leb (0 + length (take n (drop w.e.said.pos w.reply))) (length room) i, r, f, ← p)
 
 -- ---- a refused opening
 
-none-good : (l : Lent) (d : Dev) → d.store ≡ no_store → good l d ≡ false
+none_good : (l : Lent) (d : Dev) → d.store ≡ no_store → good l d ≡ false
 unfolding good in_bounds
-none-good l d e = ap (λ (s : Store). in_bounds s && parts_fit s (length d.chip) (length l.marks) (length d.buf)) e
+none_good l d e = ap (λ (s : Store). in_bounds s && parts_fit s (length d.chip) (length l.marks) (length d.buf)) e
 
 -- every later call is refused
-pub none-fits : (g : Given) (w : World) → w.e.store ≡ no_store → fits g w ≡ false
+pub none_fits : (g : Given) (w : World) → w.e.store ≡ no_store → fits g w ≡ false
 unfolding fits
-none-fits g w e = rw (none-good g.lent (dev_of w) e, none (engine_ok w.e), none (rooms_ok (length w.request) (length w.reply)))
+none_fits g w e = rw (none_good g.lent (dev_of w) e, none (engine_ok w.e), none (rooms_ok (length w.request) (length w.reply)))

@@ -24,70 +24,70 @@ laid_none s at = go (leb (at + 0) (length s))
     go true = refl
     go false = refl
 
-pub hwinfo-length : (stage : ℕ) → length (hwinfo stage) ≡ 108
+pub hwinfo_length : (stage : ℕ) → length (hwinfo stage) ≡ 108
 unfolding hwinfo bytes_of
-hwinfo-length stage = refl
+hwinfo_length stage = refl
 
-pub media-length : (nand : Bool) (device : ℕ) → length (media nand device) ≡ 68
+pub media_length : (nand : Bool) (device : ℕ) → length (media nand device) ≡ 68
 unfolding media bytes_of
-media-length true device = refl
-media-length false device = refl
+media_length true device = refl
+media_length false device = refl
 
-pub geometry-length : (capacity block : ℕ) → length (geometry capacity block) ≡ 24
+pub geometry_length : (capacity block : ℕ) → length (geometry capacity block) ≡ 24
 unfolding geometry bytes_of
-geometry-length capacity block = refl
+geometry_length capacity block = refl
 
 -- ---- what a reply takes
 
-sent-short : (xs : List ℕ) → length xs ≤ 4096 → sent xs ≡ ok xs
+sent_short : (xs : List ℕ) → length xs ≤ 4096 → sent xs ≡ ok xs
 unfolding sent
-sent-short xs h = rw (le-leb (length xs) 4096 h)
+sent_short xs h = rw (le-leb (length xs) 4096 h)
 
-sent-long : (xs : List ℕ) → 4096 < length xs → sent xs ≡ odd
+sent_long : (xs : List ℕ) → 4096 < length xs → sent xs ≡ odd
 unfolding sent
-sent-long xs h = rw (lt-leb (length xs) 4096 h)
+sent_long xs h = rw (lt-leb (length xs) 4096 h)
 
 pub table_none : (t : List ℕ) → length t ≡ 0 → table_text t ≡ fail
 unfolding table_text
 table_none [] h = refl
 table_none (x ∷ t) h = absurd (omega arith)
 
-pub table-sent : (t : List ℕ) → (length t ≡ 0 → ⊥) → length t ≤ 4096 → table_text t ≡ ok t
+pub table_sent : (t : List ℕ) → (length t ≡ 0 → ⊥) → length t ≤ 4096 → table_text t ≡ ok t
 unfolding table_text
-table-sent [] h k = absurd (h refl)
-table-sent (x ∷ t) h k = sent-short (x ∷ t) k
+table_sent [] h k = absurd (h refl)
+table_sent (x ∷ t) h k = sent_short (x ∷ t) k
 
-pub table-long : (t : List ℕ) → 4096 < length t → table_text t ≡ odd
+pub table_long : (t : List ℕ) → 4096 < length t → table_text t ≡ odd
 unfolding table_text
-table-long [] h = absurd (omega arith)
-table-long (x ∷ t) h = sent-long (x ∷ t) h
+table_long [] h = absurd (omega arith)
+table_long (x ∷ t) h = sent_long (x ∷ t) h
 
 -- ---- what the plain commands look at
 
 module _ (c base burn run : ℕ) (s : Store) (t reply : List ℕ) {block : ℕ} {x : Short} (b : block ≡ block_size_of s) (h : x ≡ short_by c base burn run block) where
-  plain-is : plain c (asking base burn run s) t ≡ plain_by c (asking base burn run s) t x
+  plain_is : plain c (asking base burn run s) t ≡ plain_by c (asking base burn run s) t x
   unfolding plain short_of
-  plain-is = ap (plain_by c (asking base burn run s) t) (sym (h ∙ ap (short_by c base burn run) b))
+  plain_is = ap (plain_by c (asking base burn run s) t) (sym (h ∙ ap (short_by c base burn run) b))
 
   -- no data
-  pub placed-none : x ≡ short.Empty → place (Ok 0) reply ≡ placing (plain c (asking base burn run s) t) reply
-  placed-none e = rw (plain-is, e, laid_none)
+  pub placed_none : x ≡ short.Empty → place (Ok 0) reply ≡ placing (plain c (asking base burn run s) t) reply
+  placed_none e = rw (plain_is, e, laid_none)
 
   -- a word
-  pub placed-word : {n : ℕ} {w r : List ℕ} → x ≡ short.Word n → w ≡ bytes_of 4 n → r ≡ laid reply 16 w → place (Ok 4) r ≡ placing (plain c (asking base burn run s) t) reply
+  pub placed_word : {n : ℕ} {w r : List ℕ} → x ≡ short.Word n → w ≡ bytes_of 4 n → r ≡ laid reply 16 w → place (Ok 4) r ≡ placing (plain c (asking base burn run s) t) reply
   unfolding bytes_of
-  placed-word e i j = rw (plain-is, e, j, i)
+  placed_word e i j = rw (plain_is, e, j, i)
 
   -- or more, of the store alone
-  pub placed-long : {nand : Bool} {p : Placed} → nand ≡ is_nand s → x ≡ short.Other
+  pub placed_long : {nand : Bool} {p : Placed} → nand ≡ is_nand s → x ≡ short.Other
       → p ≡ placing (long_by c s.shape.stage nand s.shape.device s.shape.capacity block t) reply → p ≡ placing (plain c (asking base burn run s) t) reply
   unfolding long_of
-  placed-long i e j = rw (plain-is, e, ← b, ← i) j
+  placed_long i e j = rw (plain_is, e, ← b, ← i) j
 
 -- all of them see four parts of the record
-pub plain-sees : (c : ℕ) (e : Engine) (t : List ℕ) → plain c (asking e.base e.up.burn e.up.run e.store) t ≡ plain c e t
+pub plain_sees : (c : ℕ) (e : Engine) (t : List ℕ) → plain c (asking e.base e.up.burn e.up.run e.store) t ≡ plain c e t
 unfolding plain short_of long_of
-plain-sees c e t = go (short_of c e)
+plain_sees c e t = go (short_of c e)
   where
     go : (x : Short) → plain_by c (asking e.base e.up.burn e.up.run e.store) t x ≡ plain_by c e t x
     go short.Empty = refl
@@ -97,25 +97,25 @@ plain-sees c e t = go (short_of c e)
 -- ---- the window in scratch
 
 module _ (base size addr len : ℕ) where
-  pub inside-below : addr < base → false ≡ inside base size addr len
+  pub inside_below : addr < base → false ≡ inside base size addr len
   unfolding inside
-  inside-below h = rw (lt-leb base addr h)
+  inside_below h = rw (lt-leb base addr h)
 
   pub inside_past : base ≤ addr → size < addr - base → false ≡ inside base size addr len
   unfolding inside
   inside_past h k = rw (le-leb base addr h, lt-leb (addr + len) (base + size) (omega arith))
 
-  pub inside-told : base ≤ addr → addr - base ≤ size → leb len (size - (addr - base)) ≡ inside base size addr len
+  pub inside_told : base ≤ addr → addr - base ≤ size → leb len (size - (addr - base)) ≡ inside base size addr len
   unfolding inside
-  inside-told h k = go (leb len (size - (addr - base))) refl ∙ ap (λ (b : Bool). b && leb (addr + len) (base + size)) (sym (le-leb base addr h))
+  inside_told h k = go (leb len (size - (addr - base))) refl ∙ ap (λ (b : Bool). b && leb (addr + len) (base + size)) (sym (le-leb base addr h))
     where
       go : (b : Bool) → leb len (size - (addr - base)) ≡ b → leb len (size - (addr - base)) ≡ leb (addr + len) (base + size)
       go true e = let i = leb-true len (size - (addr - base)) e in e ∙ sym (le-leb (addr + len) (base + size) (omega arith))
       go false e = let i = leb-false len (size - (addr - base)) e in e ∙ sym (lt-leb (addr + len) (base + size) (omega arith))
 
-  pub inside-fits : inside base size addr len ≡ true → (base ≤ addr) × (addr - base + len ≤ size)
+  pub inside_fits : inside base size addr len ≡ true → (base ≤ addr) × (addr - base + len ≤ size)
   unfolding inside
-  inside-fits = go (leb base addr) (leb (addr + len) (base + size)) refl refl
+  inside_fits = go (leb base addr) (leb (addr + len) (base + size)) refl refl
     where
       go : (a b : Bool) → leb base addr ≡ a → leb (addr + len) (base + size) ≡ b → (a && b) ≡ true → (base ≤ addr) × (addr - base + len ≤ size)
       go true true e f t = let i = leb-true base addr e in let j = leb-true (addr + len) (base + size) f in (i, omega arith)
@@ -123,17 +123,17 @@ module _ (base size addr len : ℕ) where
       go false b e f t = let z : ◌≡◌ {A = ℕ} 0 1 = cc in absurd (omega arith)
 
 -- a window inside scratch has as many bytes as it says
-window-length : (base addr len : ℕ) (x : List ℕ) → inside base (length x) addr len ≡ true → length (take len (drop (addr - base) x)) ≡ len
-window-length base addr len x t =
-    let f = inside-fits base (length x) addr len t in
+window_length : (base addr len : ℕ) (x : List ℕ) → inside base (length x) addr len ≡ true → length (take len (drop (addr - base) x)) ≡ len
+window_length base addr len x t =
+    let f = inside_fits base (length x) addr len t in
     length-take-le len (drop (addr - base) x) (simp length-drop (omega (arith, f.1)))
 
 -- ---- READ
 
 module _ (base : ℕ) (x d reply : List ℕ) where
-  pub read-cut : pair_of d ≡ Cut → placing fail reply ≡ placing (read_of base x d) reply
+  pub read_cut : pair_of d ≡ Cut → placing fail reply ≡ placing (read_of base x d) reply
   unfolding read_of
-  read-cut p = ap (λ (q : Pair). placing (read_by base x q) reply) (sym p)
+  read_cut p = ap (λ (q : Pair). placing (read_by base x q) reply) (sym p)
 
   module _ {addr len : ℕ} (p : pair_of d ≡ Both addr len) where
     read_is : read_of base x d ≡ read_by base x (Both addr len)
@@ -147,15 +147,15 @@ module _ (base : ℕ) (x d reply : List ℕ) where
       pub read_none : 4112 < len → place (Ok 0) (laid reply 16 []) ≡ placing (read_of base x d) reply
       read_none h = rw (read_is, t, lt-leb len 4112 h)
 
-      pub read-odd : len ≤ 4112 → 4096 < len → placing odd reply ≡ placing (read_of base x d) reply
-      read-odd h k = rw (read_is, t, le-leb len 4112 h, sent-long (take len (drop (addr - base) x)) (rw (window-length base addr len x t) k))
+      pub read_odd : len ≤ 4112 → 4096 < len → placing odd reply ≡ placing (read_of base x d) reply
+      read_odd h k = rw (read_is, t, le-leb len 4112 h, sent_long (take len (drop (addr - base) x)) (rw (window_length base addr len x t) k))
 
-      pub read-sent : len ≤ 4096 → (e : ℕ) → e ≡ addr - base + len → {r : List ℕ} → r ≡ laid reply 16 (take (e - (addr - base)) (drop (addr - base) x))
+      pub read_sent : len ≤ 4096 → (e : ℕ) → e ≡ addr - base + len → {r : List ℕ} → r ≡ laid reply 16 (take (e - (addr - base)) (drop (addr - base) x))
           → place (Ok len) r ≡ placing (read_of base x d) reply
-      read-sent h e q w =
+      read_sent h e q w =
           let i : e - (addr - base) ≡ len = omega arith in
-          let s = sent-short (take len (drop (addr - base) x)) (rw (window-length base addr len x t) h) in
-          rw (w, i, read_is, t, le-leb len 4112 (omega arith), s, window-length base addr len x t)
+          let s = sent_short (take len (drop (addr - base) x)) (rw (window_length base addr len x t) h) in
+          rw (w, i, read_is, t, le-leb len 4112 (omega arith), s, window_length base addr len x t)
 
 -- ---- WRITE
 
@@ -169,26 +169,26 @@ pair_fits d addr len = go (leb 8 (length d)) refl
     go false e h = let z : ◌≡◌ {A = ℕ} 0 1 = cc in absurd (omega arith)
 
 module _ (base : ℕ) (x d : List ℕ) where
-  pub write-cut : pair_of d ≡ Cut → wrote_as Fail x ≡ wrote_by (write_of base x d)
+  pub write_cut : pair_of d ≡ Cut → wrote_as Fail x ≡ wrote_by (write_of base x d)
   unfolding write_of
-  write-cut p = ap (λ (q : Pair). wrote_by (write_by base x d q)) (sym p)
+  write_cut p = ap (λ (q : Pair). wrote_by (write_by base x d q)) (sym p)
 
   module _ {addr len : ℕ} (p : pair_of d ≡ Both addr len) where
-    write-is : write_of base x d ≡ write_by base x d (Both addr len)
+    write_is : write_of base x d ≡ write_by base x d (Both addr len)
     unfolding write_of
-    write-is = ap (write_by base x d) p
+    write_is = ap (write_by base x d) p
 
-    pub write-short : length d - 8 < len → wrote_as Fail x ≡ wrote_by (write_of base x d)
-    write-short h = rw (write-is, lt-leb len (length d - 8) h)
+    pub write_short : length d - 8 < len → wrote_as Fail x ≡ wrote_by (write_of base x d)
+    write_short h = rw (write_is, lt-leb len (length d - 8) h)
 
-    pub write-out : len ≤ length d - 8 → inside base (length x) addr len ≡ false → wrote_as Fail x ≡ wrote_by (write_of base x d)
-    write-out h t = rw (write-is, le-leb len (length d - 8) h, t)
+    pub write_out : len ≤ length d - 8 → inside base (length x) addr len ≡ false → wrote_as Fail x ≡ wrote_by (write_of base x d)
+    write_out h t = rw (write_is, le-leb len (length d - 8) h, t)
 
-    pub write-in : len ≤ length d - 8 → inside base (length x) addr len ≡ true → (e : ℕ) → e ≡ 8 + len → {r : List ℕ}
+    pub write_in : len ≤ length d - 8 → inside base (length x) addr len ≡ true → (e : ℕ) → e ≡ 8 + len → {r : List ℕ}
         → r ≡ laid x (addr - base) (take (e - 8) (drop 8 d)) → wrote_as (Ok 0) r ≡ wrote_by (write_of base x d)
     unfolding laid
-    write-in h t e q w =
+    write_in h t e q w =
         let i : e - 8 ≡ len = omega arith in
-        let f = inside-fits base (length x) addr len t in
+        let f = inside_fits base (length x) addr len t in
         let n : length (take len (drop 8 d)) ≡ len = length-take-le len (drop 8 d) (simp length-drop (omega arith)) in
-        rw (w, i, write-is, le-leb len (length d - 8) h, t, n, le-leb (addr - base + len) (length x) f.1)
+        rw (w, i, write_is, le-leb len (length d - 8) h, t, n, le-leb (addr - base + len) (length x) f.1)

@@ -17,143 +17,143 @@ use Rattle.engine.specs.Exec.{runs, order_of, begun, performs, exec_by, execs}
 use Rattle.engine.specs.Stream.{UpFit, fed_by, fed, taken, settled_by, settled, finishes, streamed_by, streams, started, begins}
 use Rattle.engine.specs.Frame.{next_of, framed, ripens, headed_by, heads, grown, fills, gathers}
 use Rattle.engine.specs.Feed.{FrameFit, Mid, Fit, want_by, want_of, turns}
-use Rattle.engine.proofs.Replies.{Brief, header-length}
-use Rattle.engine.proofs.Tidies.{runs-tidy}
-use Rattle.engine.proofs.Frames.{Taken, next-taken}
+use Rattle.engine.proofs.Replies.{Brief, header_length}
+use Rattle.engine.proofs.Tidies.{runs_tidy}
+use Rattle.engine.proofs.Frames.{Taken, next_taken}
 
 -- what holds of both holds of the one that a test picks
 picked : {A : Type 0} (P : A → Type 0) (b : Bool) (x y : A) → (b ≡ true → P x) → (b ≡ false → P y) → P (cond b x y)
 picked P true x y h k = h refl
 picked P false x y h k = k refl
 
-empty-fit : FrameFit (record { len = 0; total = 0 })
-empty-fit = (λ z. omega arith, λ n. absurd (n refl), omega arith)
+empty_fit : FrameFit (record { len = 0; total = 0 })
+empty_fit = (λ z. omega arith, λ n. absurd (n refl), omega arith)
 
 -- ---- replies
 
-reply-most : (c : ℕ) (a : Answer) → Brief a → length (reply_by c a) ≤ 4112
+reply_most : (c : ℕ) (a : Answer) → Brief a → length (reply_by c a) ≤ 4112
 unfolding reply_by
-reply-most c (ok bytes) h =
+reply_most c (ok bytes) h =
     let x = header_of 0x52475055 c 0 (length bytes) in
-    omega (arith, length-append x bytes, header-length 0x52475055 c 0 (length bytes))
-reply-most c fail h = omega (arith, header-length 0x52475055 c 1 0)
-reply-most c unsupported h =
+    omega (arith, length-append x bytes, header_length 0x52475055 c 0 (length bytes))
+reply_most c fail h = omega (arith, header_length 0x52475055 c 1 0)
+reply_most c unsupported h =
     let x = header_of 0x52475055 c 1 108 in
     let z : length {A = ℕ} (replicate 108 0) ≡ 108 = length-replicate {A = ℕ} 108 0 in
-    omega (arith, length-append x (replicate 108 0), header-length 0x52475055 c 1 108)
-reply-most c odd h = omega (arith, header-length 0 1 0 0)
+    omega (arith, length-append x (replicate 108 0), header_length 0x52475055 c 1 108)
+reply_most c odd h = omega (arith, header_length 0 1 0 0)
 
-replied-mid : (c : ℕ) (a : Answer) (w : World) → length w.request ≡ 8208 → length w.reply ≡ 4112 → UpFit w.e.up → Brief a → Mid (replied c a w)
+replied_mid : (c : ℕ) (a : Answer) (w : World) → length w.request ≡ 8208 → length w.reply ≡ 4112 → UpFit w.e.up → Brief a → Mid (replied c a w)
 unfolding replied
-replied-mid c a w q p u h = record { request = q; reply = length-sets w.reply 0 (reply_by c a) ∙ p; said = (omega arith, reply-most c a h); up = u }
+replied_mid c a w q p u h = record { request = q; reply = length-sets w.reply 0 (reply_by c a) ∙ p; said = (omega arith, reply_most c a h); up = u }
 
-whether-brief : (b : Bool) → Brief (whether b)
-whether-brief true = omega arith
-whether-brief false = tt
+whether_brief : (b : Bool) → Brief (whether b)
+whether_brief true = omega arith
+whether_brief false = tt
 
-replied-fit : (c : ℕ) (a : Answer) (w : World) → Mid w → FrameFit w.e.frame → Brief a → Fit (replied c a w)
+replied_fit : (c : ℕ) (a : Answer) (w : World) → Mid w → FrameFit w.e.frame → Brief a → Fit (replied c a w)
 unfolding replied
-replied-fit c a w m f h = record { mid = replied-mid c a w m.request m.reply m.up h; frame = f }
+replied_fit c a w m f h = record { mid = replied_mid c a w m.request m.reply m.up h; frame = f }
 
 -- ---- a stream
 
 module _ (l : Lent) where
-  settled-fit : (w : World) → Fit w → Fit (settled l w)
+  settled_fit : (w : World) → Fit w → Fit (settled l w)
   unfolding settled
-  settled-fit w k =
+  settled_fit w k =
       picked Fit (eqb w.e.up.burn 0) (settled_by w (flushing l (dev_of w))) w
       (λ _. record { mid = record { request = k.mid.request; reply = k.mid.reply; said = k.mid.said; up = k.mid.up }; frame = k.frame })
       (λ _. k)
 
-  finish-fit : (w : World) → Fit w → Fit (finishes l w).w
+  finish_fit : (w : World) → Fit w → Fit (finishes l w).w
   unfolding finishes
-  finish-fit w k =
-      let s = settled-fit w k in
-      replied-fit 0x12 (whether (eqb (settled l w).e.up.burn 0)) (settled l w) s.mid s.frame (whether-brief (eqb (settled l w).e.up.burn 0))
+  finish_fit w k =
+      let s = settled_fit w k in
+      replied_fit 0x12 (whether (eqb (settled l w).e.up.burn 0)) (settled l w) s.mid s.frame (whether_brief (eqb (settled l w).e.up.burn 0))
 
-  streamed-fit : (w : World) → Fit w → Fit (streamed_by l w).w
-  streamed-fit w k = picked (λ (o : Out). Fit o.w) (eqb w.e.up.left 0) (finishes l w) (out_of 0 w) (λ _. finish-fit w k) (λ _. k)
+  streamed_fit : (w : World) → Fit w → Fit (streamed_by l w).w
+  streamed_fit w k = picked (λ (o : Out). Fit o.w) (eqb w.e.up.left 0) (finishes l w) (out_of 0 w) (λ _. finish_fit w k) (λ _. k)
 
-  fed-fit : (p : List ℕ) (w : World) → length p ≤ w.e.up.left → Fit w → Fit (fed l p w)
+  fed_fit : (p : List ℕ) (w : World) → length p ≤ w.e.up.left → Fit w → Fit (fed l p w)
   unfolding fed
-  fed-fit p w n k =
+  fed_fit p w n k =
       let u : UpFit (taken p (length p) w.e.up) = (omega (arith, k.mid.up.0), k.mid.up.1) in
       picked Fit w.e.up.aimed (fed_by w p (writing l (w.e.up.target + w.e.up.written) p (dev_of w))) (at_e (with_up (taken p (length p) w.e.up) w.e) w)
       (λ _. record { mid = record { request = k.mid.request; reply = k.mid.reply; said = k.mid.said; up = u }; frame = k.frame })
       (λ _. record { mid = record { request = k.mid.request; reply = k.mid.reply; said = k.mid.said; up = u }; frame = k.frame })
 
-  stream-fit : (p : List ℕ) (w : World) → length p ≤ w.e.up.left → Fit w → Fit (streams l p w).w
+  stream_fit : (p : List ℕ) (w : World) → length p ≤ w.e.up.left → Fit w → Fit (streams l p w).w
   unfolding streams
-  stream-fit p w n k = streamed-fit (fed l p w) (fed-fit p w n k)
+  stream_fit p w n k = streamed_fit (fed l p w) (fed_fit p w n k)
 
-  begin-fit : (n : ℕ) (w : World) → n < 2 ^ 32 → Fit w → Fit (begins l n w).w
+  begin_fit : (n : ℕ) (w : World) → n < 2 ^ 32 → Fit w → Fit (begins l n w).w
   unfolding begins ends
-  begin-fit n w h k =
+  begin_fit n w h k =
       let u : UpFit (started n w.e.up) = (omega arith, k.mid.up.1) in
       let v = at_e (with_up (started n w.e.up) w.e) w in
       picked (λ (o : Out). Fit o.w) w.e.up.valid (streamed_by l v) (ends 0x12 fail w)
-      (λ _. streamed-fit v (record { mid = record { request = k.mid.request; reply = k.mid.reply; said = k.mid.said; up = u }; frame = k.frame }))
-      (λ _. replied-fit 0x12 fail w k.mid k.frame tt)
+      (λ _. streamed_fit v (record { mid = record { request = k.mid.request; reply = k.mid.reply; said = k.mid.said; up = u }; frame = k.frame }))
+      (λ _. replied_fit 0x12 fail w k.mid k.frame tt)
 
 -- ---- a frame
 
-empty-world : (w : World) → Mid w → Fit (at_e (emptied w.e) w)
-empty-world w m = record { mid = record { request = m.request; reply = m.reply; said = m.said; up = m.up }; frame = empty-fit }
+empty_world : (w : World) → Mid w → Fit (at_e (emptied w.e) w)
+empty_world w m = record { mid = record { request = m.request; reply = m.reply; said = m.said; up = m.up }; frame = empty_fit }
 
 module _ (g : Given) where
-  perform-fit : (c n : ℕ) (w : World) → Mid w → Fit (performs g c n w).w
+  perform_fit : (c n : ℕ) (w : World) → Mid w → Fit (performs g c n w).w
   unfolding performs ends replied
-  perform-fit c n w m =
+  perform_fit c n w m =
       let v = at_e (begun c w.e) w in
       let d = take n (drop 16 w.request) in
       let r = runs g c d v in
-      let t = runs-tidy g c d v in
+      let t = runs_tidy g c d v in
       record {
-        mid = replied-mid c r.answer r.w (ap length t.keeps.request ∙ m.request) (ap length t.keeps.reply ∙ m.reply) (t.keeps.up m.up) t.brief;
-        frame = rw t.keeps.frame empty-fit;
+        mid = replied_mid c r.answer r.w (ap length t.keeps.request ∙ m.request) (ap length t.keeps.reply ∙ m.reply) (t.keeps.up m.up) t.brief;
+        frame = rw t.keeps.frame empty_fit;
       }
 
-  exec-fit : (w : World) → Mid w → Fit (execs g w).w
+  exec_fit : (w : World) → Mid w → Fit (execs g w).w
   unfolding execs
-  exec-fit w m = go (order_of (take w.e.frame.total w.request))
+  exec_fit w m = go (order_of (take w.e.frame.total w.request))
     where
       go : (o : Order) → Fit (exec_by g w o).w
-      go Bad = empty-world w m
-      go (Run c n) = perform-fit c n w m
+      go Bad = empty_world w m
+      go (Run c n) = perform_fit c n w m
 
   -- a frame that is not whole, or is executed
-  ripe-fit : (w : World) → Mid w → w.e.frame.total ≤ 8208 → (w.e.frame.total ≡ 0 → ⊥) → Fit (ripens g w).w
+  ripe_fit : (w : World) → Mid w → w.e.frame.total ≤ 8208 → (w.e.frame.total ≡ 0 → ⊥) → Fit (ripens g w).w
   unfolding ripens
-  ripe-fit w m h n =
+  ripe_fit w m h n =
       picked (λ (o : Out). Fit o.w) (ltb w.e.frame.len w.e.frame.total) (out_of 0 w) (execs g w)
       (λ t. record { mid = m; frame = (λ z. absurd (n z), λ _. ltb-true w.e.frame.len w.e.frame.total t, h) })
-      (λ _. exec-fit w m)
+      (λ _. exec_fit w m)
 
-  heads-fit : (w : World) → Mid w → Fit (heads g w).w
+  heads_fit : (w : World) → Mid w → Fit (heads g w).w
   unfolding heads
-  heads-fit w m = go (next_of w.request) (next-taken w.request)
+  heads_fit w m = go (next_of w.request) (next_taken w.request)
     where
       go : (x : Next) → Taken x → Fit (headed_by g w x).w
-      go Refused t = empty-world w m
-      go (Send n) t = begin-fit g.lent n (at_e (emptied w.e) w) t (empty-world w m)
+      go Refused t = empty_world w m
+      go (Send n) t = begin_fit g.lent n (at_e (emptied w.e) w) t (empty_world w m)
       go (Total n) t =
-          ripe-fit (framed 16 n w) (record { request = m.request; reply = m.reply; said = m.said; up = m.up }) t.1 (λ z. omega (arith, t.0))
+          ripe_fit (framed 16 n w) (record { request = m.request; reply = m.reply; said = m.said; up = m.up }) t.1 (λ z. omega (arith, t.0))
 
-  fills-fit : (w : World) → Mid w → w.e.frame.total ≤ 8208 → Fit (fills g w).w
+  fills_fit : (w : World) → Mid w → w.e.frame.total ≤ 8208 → Fit (fills g w).w
   unfolding fills
-  fills-fit w m h =
+  fills_fit w m h =
       picked (λ (o : Out). Fit o.w) (eqb w.e.frame.total 0) (cond (ltb w.e.frame.len 16) (out_of 0 w) (heads g w)) (ripens g w)
       (λ z. picked (λ (o : Out). Fit o.w) (ltb w.e.frame.len 16) (out_of 0 w) (heads g w)
       (λ t. record { mid = m; frame = (λ _. ltb-true w.e.frame.len 16 t, λ n. absurd (n (eqb-true w.e.frame.total 0 z)), h) })
-      (λ _. heads-fit w m))
-      (λ z. ripe-fit w m h (eqb-false w.e.frame.total 0 z))
+      (λ _. heads_fit w m))
+      (λ z. ripe_fit w m h (eqb-false w.e.frame.total 0 z))
 
 -- ---- a turn
 
 -- what is wanted is some
-pub want-some : (w : World) → Fit w → 0 < want_of w.e
+pub want_some : (w : World) → Fit w → 0 < want_of w.e
 unfolding want_by
-want-some w k =
+want_some w k =
     let f = w.e.frame in
     picked (λ (n : ℕ). 0 < n) (eqb w.e.up.left 0) (cond (eqb f.total 0) (16 - f.len) (f.total - f.len)) w.e.up.left
     (λ _. picked (λ (n : ℕ). 0 < n) (eqb f.total 0) (16 - f.len) (f.total - f.len)
@@ -162,16 +162,16 @@ want-some w k =
     (λ z. let i = eqb-false w.e.up.left 0 z in omega arith)
 
 -- of a stream, no more than is left
-pub want-stream : (e : Engine) → (e.up.left ≡ 0 → ⊥) → want_of e ≡ e.up.left
+pub want_stream : (e : Engine) → (e.up.left ≡ 0 → ⊥) → want_of e ≡ e.up.left
 unfolding want_by
-want-stream e h =
+want_stream e h =
     picked (λ (n : ℕ). n ≡ e.up.left) (eqb e.up.left 0) (cond (eqb e.frame.total 0) (16 - e.frame.len) (e.frame.total - e.frame.len)) e.up.left
     (λ z. absurd (h (eqb-true e.up.left 0 z))) (λ _. refl)
 
 -- of a frame, no more than the request room takes
-pub want-frame : (e : Engine) → FrameFit e.frame → e.up.left ≡ 0 → e.frame.len + want_of e ≤ 8208
+pub want_frame : (e : Engine) → FrameFit e.frame → e.up.left ≡ 0 → e.frame.len + want_of e ≤ 8208
 unfolding want_by
-want-frame e k h =
+want_frame e k h =
     let f = e.frame in
     picked (λ (n : ℕ). f.len + n ≤ 8208) (eqb e.up.left 0) (cond (eqb f.total 0) (16 - f.len) (f.total - f.len)) e.up.left
     (λ _. picked (λ (n : ℕ). f.len + n ≤ 8208) (eqb f.total 0) (16 - f.len) (f.total - f.len)
@@ -179,10 +179,10 @@ want-frame e k h =
     (λ z. let i = k.1 (eqb-false f.total 0 z) in omega (arith, k.2)))
     (λ z. absurd (eqb-false e.up.left 0 z h))
 
-pub turn-fit : (g : Given) (p : List ℕ) (w : World) → length p ≤ want_of w.e → Fit w → Fit (turns g p w).w
+pub turn_fit : (g : Given) (p : List ℕ) (w : World) → length p ≤ want_of w.e → Fit w → Fit (turns g p w).w
 unfolding turns gathers
-turn-fit g p w n k =
+turn_fit g p w n k =
     picked (λ (o : Out). Fit o.w) (eqb w.e.up.left 0) (gathers g p w) (streams g.lent p w)
-    (λ _. fills-fit g (grown w p)
+    (λ _. fills_fit g (grown w p)
     (record { request = length-sets w.request w.e.frame.len p ∙ k.mid.request; reply = k.mid.reply; said = k.mid.said; up = k.mid.up }) k.frame.2)
-    (λ z. stream-fit g.lent p w (omega (arith, want-stream w.e (eqb-false w.e.up.left 0 z))) k)
+    (λ z. stream_fit g.lent p w (omega (arith, want_stream w.e (eqb-false w.e.up.left 0 z))) k)

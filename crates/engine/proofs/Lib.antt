@@ -1,4 +1,4 @@
--- The laws of the definitions. For the functions above: `text-fits` and `window-fits` of Windows, `boot-length` of Tables.
+-- The laws of the definitions. For the functions above: `text_fits` and `window_fits` of Windows, `boot_length` of Tables.
 pub mod Numbers
 pub mod Commands
 pub mod Replies

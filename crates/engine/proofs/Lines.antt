@@ -2,7 +2,7 @@
 use Rattle.std.proofs.Common.{◌≡◌, ℕ, Bool, true, false, cond, List, drop, sym, refl, ap, ◌∙◌}
 use Rattle.text.specs.Token.{until, place_after, rest_of}
 use Rattle.text.specs.Number.{number_in}
-use Rattle.text.proofs.Tokens.{tokens-from}
+use Rattle.text.proofs.Tokens.{tokens_from}
 use Rattle.text.specs.declared.number.Number.{Number}
 use Rattle.text.specs.declared.number.Number.TheVariants as number
 use Rattle.text.specs.declared.token.Place.{Place}
@@ -36,10 +36,10 @@ module _ (s : List ℕ) where
   on_next f (next.Number n p) = f n (rest_of s p)
   on_next f next.Bad = line.Bad
 
-  next-is : (f : ℕ → List (List ℕ) → Line) (p : Place) → with_number f (rest_of s p) ≡ on_next f (next_at s p)
+  next_is : (f : ℕ → List (List ℕ) → Line) (p : Place) → with_number f (rest_of s p) ≡ on_next f (next_at s p)
   unfolding on_next with_number rest_of next_at
-  next-is f place.Done = refl
-  next-is f (place.At p) = ap (with_number f) (tokens-from s p) ∙ go (number_in (until 0x20 (drop p s)))
+  next_is f place.Done = refl
+  next_is f (place.At p) = ap (with_number f) (tokens_from s p) ∙ go (number_in (until 0x20 (drop p s)))
     where
       go : (n : Number) → on_number (λ n. f n (rest_of s (place_after s p))) n ≡ on_next f (next_by (place_after s p) n)
       go (number.Value n) = refl
@@ -47,25 +47,25 @@ module _ (s : List ℕ) where
 
   module _ (p : Place) (f : ℕ → List (List ℕ) → Line) {x : Next} (e : x ≡ next_at s p) where
     -- no number stands there
-    pub next-bad : x ≡ next.Bad → line.Bad ≡ with_number f (rest_of s p)
+    pub next_bad : x ≡ next.Bad → line.Bad ≡ with_number f (rest_of s p)
     unfolding on_next
-    next-bad h = ap (on_next f) (sym h ∙ e) ∙ sym (next-is f p)
+    next_bad h = ap (on_next f) (sym h ∙ e) ∙ sym (next_is f p)
 
     -- a number stands there, and the rest goes on from the next place
-    pub next-good : {n : ℕ} {q : Place} {r : Line} → x ≡ next.Number n q → r ≡ f n (rest_of s q) → r ≡ with_number f (rest_of s p)
+    pub next_good : {n : ℕ} {q : Place} {r : Line} → x ≡ next.Number n q → r ≡ f n (rest_of s q) → r ≡ with_number f (rest_of s p)
     unfolding on_next
-    next-good h k = k ∙ ap (on_next f) (sym h ∙ e) ∙ sym (next-is f p)
+    next_good h k = k ∙ ap (on_next f) (sym h ∙ e) ∙ sym (next_is f p)
 
   -- what follows the id goes on from the place behind it
-  pub id-past : (p : Place) (f : ℕ → List (List ℕ) → Line) {q : Place} → q ≡ id_past s p → with_number f (rest_of s q) ≡ with_id (with_number f) (rest_of s p)
+  pub id_past_lem : (p : Place) (f : ℕ → List (List ℕ) → Line) {q : Place} → q ≡ id_past s p → with_number f (rest_of s q) ≡ with_id (with_number f) (rest_of s p)
   unfolding with_number with_id rest_of id_past
-  id-past p f e = ap (λ (r : Place). with_number f (rest_of s r)) e ∙ go p
+  id_past_lem p f e = ap (λ (r : Place). with_number f (rest_of s r)) e ∙ go p
     where
       go : (p : Place) → with_number f (rest_of s (id_past s p)) ≡ with_id (with_number f) (rest_of s p)
       go place.Done = refl
-      go (place.At p) = sym (ap (with_id (with_number f)) (tokens-from s p))
+      go (place.At p) = sym (ap (with_id (with_number f)) (tokens_from s p))
 
   -- the command word v is the token at the start, and what it asks for follows
-  pub line-is : {t : List ℕ} {w v : Word} {p : Place} → t ≡ until 0x20 s → w ≡ word_of t → p ≡ place_after s 0 → w ≡ v → asked v (rest_of s p) ≡ line_of s
+  pub line_is : {t : List ℕ} {w v : Word} {p : Place} → t ≡ until 0x20 s → w ≡ word_of t → p ≡ place_after s 0 → w ≡ v → asked v (rest_of s p) ≡ line_of s
   unfolding line_of
-  line-is a b d e = rw (← e, b, a, d) (sym (ap command (tokens-from s 0)))
+  line_is a b d e = rw (← e, b, a, d) (sym (ap command (tokens_from s 0)))

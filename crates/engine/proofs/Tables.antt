@@ -8,44 +8,44 @@ use Rattle.text.specs.Token.{ascii}
 use Rattle.wire.specs.Bytes.{laid}
 use Rattle.engine.specs.Shell.{put_word, boot_words, boot_name, boot_table}
 
-laid-length : (s : List ℕ) (at : ℕ) (xs : List ℕ) → length (laid s at xs) ≡ length s
+laid_length : (s : List ℕ) (at : ℕ) (xs : List ℕ) → length (laid s at xs) ≡ length s
 unfolding laid
-laid-length s at xs = go (leb (at + length xs) (length s))
+laid_length s at xs = go (leb (at + length xs) (length s))
   where
     go : (t : Bool) → length (cond t (sets s at xs) s) ≡ length s
     go true = length-sets s at xs
     go false = refl
 
 module _ (base at : ℕ) (s : List ℕ) where
-  pub name-none : length s < 0x52 → s ≡ boot_name base at s
+  pub name_none : length s < 0x52 → s ≡ boot_name base at s
   unfolding boot_name
-  name-none h = rw (lt-leb 0x52 (length s) h)
+  name_none h = rw (lt-leb 0x52 (length s) h)
 
   -- two wrapping adds are one sum modulo 2^32
-  pub name-put : 0x52 ≤ length s → {x y : ℕ} {u v : List ℕ} → x ≡ (base + at) % 2 ^ 32 → y ≡ (x + 0x40) % 2 ^ 32
+  pub name_put : 0x52 ≤ length s → {x y : ℕ} {u v : List ℕ} → x ≡ (base + at) % 2 ^ 32 → y ≡ (x + 0x40) % 2 ^ 32
       → u ≡ laid s 0x40 (ascii "artinchip spi-nor\0") → v ≡ put_word u 0x24 y → v ≡ boot_name base at s
   unfolding boot_name
-  name-put h a b d e =
+  name_put h a b d e =
       e ∙ ap₂ (λ (l : List ℕ) (k : ℕ). put_word l 0x24 k) d (b ∙ ap (λ (k : ℕ). (k + 0x40) % 2 ^ 32) a ∙ mod-add-mod (base + at) (2 ^ 32) 0x40)
       ∙ rw (le-leb 0x52 (length s) h)
 
-  name-length : length (boot_name base at s) ≡ length s
+  name_length : length (boot_name base at s) ≡ length s
   unfolding boot_name
-  name-length = go (leb 0x52 (length s))
+  name_length = go (leb 0x52 (length s))
     where
       go : (t : Bool) → length (cond t (put_word (laid s 0x40 (ascii "artinchip spi-nor\0")) 0x24 ((base + at + 0x40) % 2 ^ 32)) s) ≡ length s
-      go true = simp laid-length
+      go true = simp laid_length
       go false = refl
 
 -- the table is as long as its room
-pub boot-length : (base at block capacity : ℕ) (s : List ℕ) → length (boot_table base at block capacity s) ≡ length s
+pub boot_length : (base at block capacity : ℕ) (s : List ℕ) → length (boot_table base at block capacity s) ≡ length s
 unfolding boot_table boot_words
-boot-length base at block capacity s = name-length base at _ ∙ simp (laid-length, length-replicate)
+boot_length base at block capacity s = name_length base at _ ∙ simp (laid_length, length-replicate)
 
 -- the place counts modulo 2^32, as the sum that is written does
-pub boot-wraps : (base at block capacity : ℕ) (s : List ℕ) → boot_table base (at % 2 ^ 32) block capacity s ≡ boot_table base at block capacity s
+pub boot_wraps : (base at block capacity : ℕ) (s : List ℕ) → boot_table base (at % 2 ^ 32) block capacity s ≡ boot_table base at block capacity s
 unfolding boot_table boot_name
-boot-wraps base at block capacity s =
+boot_wraps base at block capacity s =
     ap (λ (k : ℕ). cond (leb 0x52 (length t)) (put_word (laid t 0x40 (ascii "artinchip spi-nor\0")) 0x24 k) t)
     (sym (mod-add-mod (base + at % 2 ^ 32) (2 ^ 32) 0x40) ∙ ap (λ (k : ℕ). (k + 0x40) % 2 ^ 32) (add-mod-mod base at (2 ^ 32)) ∙ mod-add-mod (base + at) (2 ^ 32) 0x40)
   where

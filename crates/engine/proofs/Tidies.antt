@@ -12,7 +12,7 @@ use Rattle.storage.specs.Scratch.{from_scratch, into_scratch}
 use Rattle.storage.specs.Partition.{Lists, Part, total, part_ok, all, parts, lists_ok, find, wanted, lookup}
 use Rattle.storage.specs.declared.partition.Found.{Found}
 use Rattle.storage.specs.declared.partition.Found.TheVariants as found
-use Rattle.storage.proofs.Scratches.{reading-count}
+use Rattle.storage.proofs.Scratches.{reading_count}
 use Rattle.engine.specs.declared.exec.Group.{Group}
 use Rattle.engine.specs.declared.exec.Group.TheVariants as group
 use Rattle.engine.specs.declared.command.Pair.{Pair}
@@ -36,7 +36,7 @@ use Rattle.engine.specs.Shell.{line_of, window_of, text_of}
 use Rattle.engine.specs.Exec.{group_of, memory, storing, runs_by, runs}
 use Rattle.engine.specs.Stream.{UpFit}
 use Rattle.engine.proofs.Replies.{Brief}
-use Rattle.engine.proofs.Commands.{hwinfo-length, media-length, geometry-length}
+use Rattle.engine.proofs.Commands.{hwinfo_length, media_length, geometry_length}
 
 -- ---- what is kept
 
@@ -50,15 +50,15 @@ pub record Tidy (w : World) (r : Ran) : Type 0 where
   pub keeps : Keeps w r.w
   pub brief : Brief r.answer
 
-keeps-refl : (w : World) → Keeps w w
-keeps-refl w = record { request = refl; reply = refl; frame = refl; up = λ h. h }
+keeps_refl : (w : World) → Keeps w w
+keeps_refl w = record { request = refl; reply = refl; frame = refl; up = λ h. h }
 
 -- another store, another scratch, other flags
-dev-keeps : (d : Dev) (w : World) → Keeps w (at_dev d w)
-dev-keeps d w = record { request = refl; reply = refl; frame = refl; up = λ h. h }
+dev_keeps : (d : Dev) (w : World) → Keeps w (at_dev d w)
+dev_keeps d w = record { request = refl; reply = refl; frame = refl; up = λ h. h }
 
-scratch-keeps : (x : List ℕ) (w v : World) → Keeps w v → Keeps w (at_scratch x v)
-scratch-keeps x w v k = record { request = k.request; reply = k.reply; frame = k.frame; up = k.up }
+scratch_keeps : (x : List ℕ) (w v : World) → Keeps w v → Keeps w (at_scratch x v)
+scratch_keeps x w v k = record { request = k.request; reply = k.reply; frame = k.frame; up = k.up }
 
 tidy : (a : Answer) (w v : World) → Keeps w v → Brief a → Tidy w (ran a v)
 tidy a w v k h = record { keeps = k; brief = h }
@@ -67,82 +67,82 @@ either : (b : Bool) (w : World) (r s : Ran) → Tidy w r → Tidy w s → Tidy w
 either true w r s h k = h
 either false w r s h k = k
 
-whether-brief : (b : Bool) → Brief (whether b)
-whether-brief true = omega arith
-whether-brief false = tt
+whether_brief : (b : Bool) → Brief (whether b)
+whether_brief true = omega arith
+whether_brief false = tt
 
-sent-brief : (xs : List ℕ) → Brief (sent xs)
+sent_brief : (xs : List ℕ) → Brief (sent xs)
 unfolding sent
-sent-brief xs = go (leb (length xs) 4096) refl
+sent_brief xs = go (leb (length xs) 4096) refl
   where
     go : (b : Bool) → leb (length xs) 4096 ≡ b → Brief (cond b (ok xs) odd)
     go true e = leb-true (length xs) 4096 e
     go false e = tt
 
-or-brief : (b : Bool) (a c : Answer) → Brief a → Brief c → Brief (cond b a c)
-or-brief true a c h k = h
-or-brief false a c h k = k
+or_brief : (b : Bool) (a c : Answer) → Brief a → Brief c → Brief (cond b a c)
+or_brief true a c h k = h
+or_brief false a c h k = k
 
 -- ---- the commands that need no storage call
 
-text-brief : (t : List ℕ) → Brief (table_text t)
+text_brief : (t : List ℕ) → Brief (table_text t)
 unfolding table_text
-text-brief [] = tt
-text-brief (x ∷ xs) = sent-brief (x ∷ xs)
+text_brief [] = tt
+text_brief (x ∷ xs) = sent_brief (x ∷ xs)
 
-long-brief : (c : ℕ) (w : World) (table : List ℕ) → Brief (long_of c w.e table)
+long_brief : (c : ℕ) (w : World) (table : List ℕ) → Brief (long_of c w.e table)
 unfolding long_by long_of
-long-brief c w t =
-    or-brief (eqb c 0x00) _ _ (omega (arith, hwinfo-length w.e.store.shape.stage))
-    (or-brief (eqb c 0x16) _ _ (omega (arith, media-length (is_nand w.e.store) w.e.store.shape.device))
-    (or-brief (eqb c 0x17) _ _ (text-brief t)
-    (or-brief (eqb c 0x1A) _ _ (omega (arith, geometry-length w.e.store.shape.capacity (block_size_of w.e.store))) tt)))
+long_brief c w t =
+    or_brief (eqb c 0x00) _ _ (omega (arith, hwinfo_length w.e.store.shape.stage))
+    (or_brief (eqb c 0x16) _ _ (omega (arith, media_length (is_nand w.e.store) w.e.store.shape.device))
+    (or_brief (eqb c 0x17) _ _ (text_brief t)
+    (or_brief (eqb c 0x1A) _ _ (omega (arith, geometry_length w.e.store.shape.capacity (block_size_of w.e.store))) tt)))
 
-plain-brief : (c : ℕ) (w : World) (table : List ℕ) → Brief (plain c w.e table)
+plain_brief : (c : ℕ) (w : World) (table : List ℕ) → Brief (plain c w.e table)
 unfolding plain bytes_of
-plain-brief c w t = go (short_of c w.e)
+plain_brief c w t = go (short_of c w.e)
   where
     go : (s : Short) → Brief (plain_by c w.e t s)
     go short.Empty = omega arith
     go (short.Word x) = omega arith
-    go short.Other = long-brief c w t
+    go short.Other = long_brief c w t
 
-read-brief : (base : ℕ) (x d : List ℕ) → Brief (read_of base x d)
+read_brief : (base : ℕ) (x d : List ℕ) → Brief (read_of base x d)
 unfolding read_of
-read-brief base x d = go (pair_of d)
+read_brief base x d = go (pair_of d)
   where
     go : (p : Pair) → Brief (read_by base x p)
     go Cut = tt
     go (Both addr len) =
-        or-brief (inside base (length x) addr len) _ _ (or-brief (leb len 4112) _ _ (sent-brief (take len (drop (addr - base) x))) (omega arith)) tt
+        or_brief (inside base (length x) addr len) _ _ (or_brief (leb len 4112) _ _ (sent_brief (take len (drop (addr - base) x))) (omega arith)) tt
 
-write-brief : (base : ℕ) (x d : List ℕ) → Brief (write_of base x d).answer
+write_brief : (base : ℕ) (x d : List ℕ) → Brief (write_of base x d).answer
 unfolding write_of
-write-brief base x d = go (pair_of d)
+write_brief base x d = go (pair_of d)
   where
-    wrote-brief : (b : Bool) (y z : List ℕ) → Brief (cond b (wrote (ok []) y) (wrote fail z)).answer
-    wrote-brief true y z = omega arith
-    wrote-brief false y z = tt
+    wrote_brief : (b : Bool) (y z : List ℕ) → Brief (cond b (wrote (ok []) y) (wrote fail z)).answer
+    wrote_brief true y z = omega arith
+    wrote_brief false y z = tt
 
     go : (p : Pair) → Brief (write_by base x d p).answer
     go Cut = tt
-    go (Both addr len) = wrote-brief (leb len (length d - 8) && inside base (length x) addr len) _ x
+    go (Both addr len) = wrote_brief (leb len (length d - 8) && inside base (length x) addr len) _ x
 
-memory-tidy : (c : ℕ) (d : List ℕ) (w : World) → Tidy w (memory c d w)
+memory_tidy : (c : ℕ) (d : List ℕ) (w : World) → Tidy w (memory c d w)
 unfolding memory
-memory-tidy c d w =
+memory_tidy c d w =
     either (eqb c 0x02) w _ _
-    (tidy _ w _ (scratch-keeps (write_of w.e.base w.scratch d).scratch w w (keeps-refl w)) (write-brief w.e.base w.scratch d))
-    (tidy _ w w (keeps-refl w) (read-brief w.e.base w.scratch d))
+    (tidy _ w _ (scratch_keeps (write_of w.e.base w.scratch d).scratch w w (keeps_refl w)) (write_brief w.e.base w.scratch d))
+    (tidy _ w w (keeps_refl w) (read_brief w.e.base w.scratch d))
 
 -- ---- the commands over the storage
 
-flush-tidy : (l : Lent) (w : World) (next : World → Ran) → ((d : Dev) → Tidy w (next (at_dev d w))) → (t : Told) → Tidy w (after_flush w next t)
-flush-tidy l w next h t = either (eqb t.status 0) w _ _ (h t.dev) (tidy fail w _ (dev-keeps t.dev w) tt)
+flush_tidy : (l : Lent) (w : World) (next : World → Ran) → ((d : Dev) → Tidy w (next (at_dev d w))) → (t : Told) → Tidy w (after_flush w next t)
+flush_tidy l w next h t = either (eqb t.status 0) w _ _ (h t.dev) (tidy fail w _ (dev_keeps t.dev w) tt)
 
-probed-keeps : (l : Lent) (w v : World) → Keeps w v → Keeps w (probed l v)
+probed_keeps : (l : Lent) (w v : World) → Keeps w v → Keeps w (probed l v)
 unfolding probed
-probed-keeps l w v k = go v.e.up.aimed
+probed_keeps l w v k = go v.e.up.aimed
   where
     u : World
     u = at_dev (reading l v.e.up.target (replicate 16 0) (dev_of v)).told.dev v
@@ -152,9 +152,9 @@ probed-keeps l w v k = go v.e.up.aimed
     go false = k
 
 -- a partition that row 12 takes starts at 2^31 at most
-part-most : (p : Part) → part_ok p ≡ true → p.offset ≤ 2 ^ 31
+part_most : (p : Part) → part_ok p ≡ true → p.offset ≤ 2 ^ 31
 unfolding part_ok
-part-most p = go (leb (length p.name) 64) (is_utf8 p.name) (leb (p.offset + p.size) (2 ^ 31)) refl
+part_most p = go (leb (length p.name) 64) (is_utf8 p.name) (leb (p.offset + p.size) (2 ^ 31)) refl
   where
     go : (a b c : Bool) → leb (p.offset + p.size) (2 ^ 31) ≡ c → (a && (b && c)) ≡ true → p.offset ≤ 2 ^ 31
     go true true true e t = let h = leb-true (p.offset + p.size) (2 ^ 31) e in omega arith
@@ -162,20 +162,20 @@ part-most p = go (leb (length p.name) 64) (is_utf8 p.name) (leb (p.offset + p.si
     go true false c e t = let z : ◌≡◌ {A = ℕ} 0 1 = cc in absurd (omega arith)
     go false b c e t = let z : ◌≡◌ {A = ℕ} 0 1 = cc in absurd (omega arith)
 
-find-most : (name : List ℕ) (ps : List Part) (o : ℕ) → all ps ≡ true → find name ps ≡ found.At o → o ≤ 2 ^ 31
+find_most : (name : List ℕ) (ps : List Part) (o : ℕ) → all ps ≡ true → find name ps ≡ found.At o → o ≤ 2 ^ 31
 unfolding all find
-find-most name [] o = λ a f. let z : ◌≡◌ {A = ℕ} 0 1 = cc in absurd (omega arith)
-find-most name (p ∷ ps) o = go (part_ok p) (same p.name name) refl (find-most name ps o)
+find_most name [] o = λ a f. let z : ◌≡◌ {A = ℕ} 0 1 = cc in absurd (omega arith)
+find_most name (p ∷ ps) o = go (part_ok p) (same p.name name) refl (find_most name ps o)
   where
     go : (b t : Bool) → part_ok p ≡ b → (all ps ≡ true → find name ps ≡ found.At o → o ≤ 2 ^ 31) → (b && all ps) ≡ true
         → cond t (found.At p.offset) (find name ps) ≡ found.At o → o ≤ 2 ^ 31
-    go true true e r a f = let h = part-most p e in let q : p.offset ≡ o = cc in omega arith
+    go true true e r a f = let h = part_most p e in let q : p.offset ≡ o = cc in omega arith
     go true false e r a f = r a f
     go false t e r a f = let z : ◌≡◌ {A = ℕ} 0 1 = cc in absurd (omega arith)
 
-lists-all : (l : Lists) → lists_ok l ≡ true → all (parts l) ≡ true
+lists_all : (l : Lists) → lists_ok l ≡ true → all (parts l) ≡ true
 unfolding lists_ok
-lists-all l =
+lists_all l =
     go (leb (length l.offsets) 32) (eqb (length l.sizes) (length l.offsets)) (eqb (length l.lens) (length l.offsets))
     (eqb (total l.lens) (length l.names)) (all (parts l))
   where
@@ -187,21 +187,21 @@ lists-all l =
     go true false c d e h = let z : ◌≡◌ {A = ℕ} 0 1 = cc in absurd (omega arith)
     go false b c d e h = let z : ◌≡◌ {A = ℕ} 0 1 = cc in absurd (omega arith)
 
-pub lookup-most : (l : Lists) (name : List ℕ) (o : ℕ) → lookup l name ≡ found.At o → o ≤ 2 ^ 31
+pub lookup_most : (l : Lists) (name : List ℕ) (o : ℕ) → lookup l name ≡ found.At o → o ≤ 2 ^ 31
 unfolding lookup
-lookup-most l name o = go (lists_ok l) (is_utf8 name) refl
+lookup_most l name o = go (lists_ok l) (is_utf8 name) refl
   where
     go : (a b : Bool) → lists_ok l ≡ a → cond a (cond b (find (wanted name) (parts l)) found.Nothing) found.Refused ≡ found.At o → o ≤ 2 ^ 31
-    go true true e f = find-most (wanted name) (parts l) o (lists-all l e) f
+    go true true e f = find_most (wanted name) (parts l) o (lists_all l e) f
     go true false e f = let z : ◌≡◌ {A = ℕ} 0 1 = cc in absurd (omega arith)
     go false b e f = let z : ◌≡◌ {A = ℕ} 0 1 = cc in absurd (omega arith)
 
-target-most : (l : Lists) (meta : List ℕ) (o : ℕ) → target_of l meta ≡ target.At o → o ≤ 2 ^ 31
+target_most : (l : Lists) (meta : List ℕ) (o : ℕ) → target_of l meta ≡ target.At o → o ≤ 2 ^ 31
 unfolding target_of
-target-most l meta o = go (partition_field meta)
+target_most l meta o = go (partition_field meta)
   where
     by : (name : List ℕ) (f : Found) → lookup l name ≡ f → found_at f ≡ target.At o → o ≤ 2 ^ 31
-    by name (found.At p) e t = let q : p ≡ o = cc in rw (← q) (lookup-most l name p e)
+    by name (found.At p) e t = let q : p ≡ o = cc in rw (← q) (lookup_most l name p e)
     by name found.Nothing e t = let z : ◌≡◌ {A = ℕ} 0 1 = cc in absurd (omega arith)
     by name found.Refused e t = let z : ◌≡◌ {A = ℕ} 0 1 = cc in absurd (omega arith)
 
@@ -209,78 +209,78 @@ target-most l meta o = go (partition_field meta)
     go [] t = let z : ◌≡◌ {A = ℕ} 0 1 = cc in absurd (omega arith)
     go (x ∷ xs) t = by (x ∷ xs) (lookup l (x ∷ xs)) refl t
 
-aims-tidy : (l : Lists) (meta : List ℕ) (w v : World) → Keeps w v → Tidy w (aims l meta v)
+aims_tidy : (l : Lists) (meta : List ℕ) (w v : World) → Keeps w v → Tidy w (aims l meta v)
 unfolding aims
-aims-tidy l meta w v k = go (target_of l meta) refl
+aims_tidy l meta w v k = go (target_of l meta) refl
   where
     go : (t : Target) → target_of l meta ≡ t → Tidy w (ran (answer_to t) (at_e (with_up (aimed_at meta v.e.up t) v.e) v))
     go target.None e = tidy _ w _ (record { request = k.request; reply = k.reply; frame = k.frame; up = λ h. (omega (arith, (k.up h).0), omega arith) }) (omega arith)
     go (target.At o) e =
-        tidy _ w _ (record { request = k.request; reply = k.reply; frame = k.frame; up = λ h. (omega (arith, (k.up h).0), target-most l meta o e) }) (omega arith)
+        tidy _ w _ (record { request = k.request; reply = k.reply; frame = k.frame; up = λ h. (omega (arith, (k.up h).0), target_most l meta o e) }) (omega arith)
     go target.Unknown e = tidy _ w _ (record { request = k.request; reply = k.reply; frame = k.frame; up = k.up }) tt
 
-read-tidy : (l : Lent) (d : List ℕ) (w : World) → Tidy w (read_fwc l d w)
+read_tidy : (l : Lent) (d : List ℕ) (w : World) → Tidy w (read_fwc l d w)
 unfolding read_fwc
-read-tidy l d w = go (pair_of d)
+read_tidy l d w = go (pair_of d)
   where
     go : (p : Pair) → Tidy w (read_fwc_by l w p)
-    go Cut = tidy fail w w (keeps-refl w) tt
+    go Cut = tidy fail w w (keeps_refl w) tt
     go (Both off len) =
         let s = reading l off (replicate (min len 512) 0) (dev_of w) in
-        let n = reading-count l off (replicate (min len 512) 0) (dev_of w) {s = s} refl in
+        let n = reading_count l off (replicate (min len 512) 0) (dev_of w) {s = s} refl in
         let m : length {A = ℕ} (replicate (min len 512) 0) ≡ min len 512 = length-replicate {A = ℕ} (min len 512) 0 in
         let k : length (take s.told.count s.room) ≡ min s.told.count (length s.room) = length-take s.told.count s.room in
-        tidy _ w _ (dev-keeps s.told.dev w) (omega arith)
+        tidy _ w _ (dev_keeps s.told.dev w) (omega arith)
 
 -- four bytes, or none
-word-brief : (x : ℕ) → Brief (ok (bytes_of 4 x))
+word_brief : (x : ℕ) → Brief (ok (bytes_of 4 x))
 unfolding bytes_of
-word-brief x = omega arith
+word_brief x = omega arith
 
-none-brief : Brief (ok [])
-none-brief = omega arith
+none_brief : Brief (ok [])
+none_brief = omega arith
 
 module _ (l : Lent) (w : World) where
-  end-tidy : Tidy w (end_upgrade l w)
+  end_tidy : Tidy w (end_upgrade l w)
   unfolding end_upgrade
-  end-tidy = flush-tidy l w (ran (ok [])) (λ v. tidy (ok []) w (at_dev v w) (dev-keeps v w) none-brief) (flushing l (dev_of w))
+  end_tidy = flush_tidy l w (ran (ok [])) (λ v. tidy (ok []) w (at_dev v w) (dev_keeps v w) none_brief) (flushing l (dev_of w))
 
-  crc-tidy : Tidy w (crc_query l w)
+  crc_tidy : Tidy w (crc_query l w)
   unfolding crc_query
-  crc-tidy =
-      flush-tidy l w (λ v. ran (ok (bytes_of 4 v.e.up.crc)) (probed l v))
-      (λ v. tidy (ok (bytes_of 4 w.e.up.crc)) w (probed l (at_dev v w)) (probed-keeps l w (at_dev v w) (dev-keeps v w)) (word-brief w.e.up.crc)) (flushing l (dev_of w))
+  crc_tidy =
+      flush_tidy l w (λ v. ran (ok (bytes_of 4 v.e.up.crc)) (probed l v))
+      (λ v. tidy (ok (bytes_of 4 w.e.up.crc)) w (probed l (at_dev v w)) (probed_keeps l w (at_dev v w) (dev_keeps v w)) (word_brief w.e.up.crc)) (flushing l (dev_of w))
 
-  erased-tidy : (d : List ℕ) → Tidy w (erase_storage l d w)
+  erased_tidy : (d : List ℕ) → Tidy w (erase_storage l d w)
   unfolding erase_storage
-  erased-tidy d =
+  erased_tidy d =
       let e : World → Told = λ v. erasing l (word_at 8 d 0) (word_at 8 d 8) (dev_of v) in
       either (leb 24 (length d)) w (after_flush w (λ v. erased_by v (e v)) (flushing l (dev_of w))) (ran fail w)
-      (flush-tidy l w (λ v. erased_by v (e v)) (λ v. tidy _ w (at_dev (e (at_dev v w)).dev w) (dev-keeps (e (at_dev v w)).dev w) (whether-brief (eqb (e (at_dev v w)).status 0)))
+      (flush_tidy l w (λ v. erased_by v (e v)) (λ v. tidy _ w (at_dev (e (at_dev v w)).dev w) (dev_keeps (e (at_dev v w)).dev w) (whether_brief (eqb (e (at_dev v w)).status 0)))
       (flushing l (dev_of w)))
-      (tidy fail w w (keeps-refl w) tt)
+      (tidy fail w w (keeps_refl w) tt)
 
-  meta-tidy : (s : Lists) (d : List ℕ) → Tidy w (set_meta l s d w)
+  meta_tidy : (s : Lists) (d : List ℕ) → Tidy w (set_meta l s d w)
   unfolding set_meta
-  meta-tidy s d =
+  meta_tidy s d =
       let m = drop (length d - 512) d in
       let f = after_flush w (aims s m) (flushing l (dev_of w)) in
       either (leb 512 (length d)) w (cond (is_meta m) f (ran fail w)) (ran fail w)
-      (either (is_meta m) w f (ran fail w) (flush-tidy l w (aims s m) (λ v. aims-tidy s m w (at_dev v w) (dev-keeps v w)) (flushing l (dev_of w)))
-      (tidy fail w w (keeps-refl w) tt))
-      (tidy fail w w (keeps-refl w) tt)
+      (either (is_meta m) w f (ran fail w) (flush_tidy l w (aims s m) (λ v. aims_tidy s m w (at_dev v w) (dev_keeps v w)) (flushing l (dev_of w)))
+      (tidy fail w w (keeps_refl w) tt))
+      (tidy fail w w (keeps_refl w) tt)
 
-storing-tidy : (g : Given) (c : ℕ) (d : List ℕ) (w : World) → Tidy w (storing g c d w)
+storing_tidy : (g : Given) (c : ℕ) (d : List ℕ) (w : World) → Tidy w (storing g c d w)
 unfolding storing
-storing-tidy g c d w =
+storing_tidy g c d w =
     let l = g.lent in
     let e = erase_storage l d w in
     let r = cond (eqb c 0x18) (read_fwc l d w) e in
     let q = cond (eqb c 0x13) (crc_query l w) r in
     let m = cond (eqb c 0x10) (set_meta l g.lists d w) q in
-    either (eqb c 0x0B) w (end_upgrade l w) m (end-tidy l w)
-    (either (eqb c 0x10) w (set_meta l g.lists d w) q (meta-tidy l w g.lists d)
-    (either (eqb c 0x13) w (crc_query l w) r (crc-tidy l w) (either (eqb c 0x18) w (read_fwc l d w) e (read-tidy l d w) (erased-tidy l w d))))
+    either (eqb c 0x0B) w (end_upgrade l w) m (end_tidy l w)
+    (either (eqb c 0x10) w (set_meta l g.lists d w) q (meta_tidy l w g.lists d)
+    (either (eqb c 0x13) w (crc_query l w) r (crc_tidy l w) (either (eqb c 0x18) w (read_fwc l d w) e (read_tidy l d w) (erased_tidy l w d))))
 
 -- ---- the shell
 
@@ -289,57 +289,57 @@ like : {w v u : World} → Keeps w v → u.request ≡ v.request → u.reply ≡
 like k a b c d = record { request = a ∙ k.request; reply = b ∙ k.reply; frame = c ∙ k.frame; up = λ h. rw d (k.up h) }
 
 module _ (l : Lent) (w v : World) (k : Keeps w v) where
-  erase-tidy : (start size : ℕ) → Tidy w (run_erase l start size v)
+  erase_tidy : (start size : ℕ) → Tidy w (run_erase l start size v)
   unfolding run_erase
-  erase-tidy start size = tidy _ w _ (like k refl refl refl refl) (whether-brief (eqb (erasing l start size (dev_of v)).status 0))
+  erase_tidy start size = tidy _ w _ (like k refl refl refl refl) (whether_brief (eqb (erasing l start size (dev_of v)).status 0))
 
-  write-tidy : (off : ℕ) (x : Window) → Tidy w (run_write l off x v)
+  write_tidy : (off : ℕ) (x : Window) → Tidy w (run_write l off x v)
   unfolding run_write
-  write-tidy off window.Out = tidy fail w v k tt
-  write-tidy off (window.At place len) =
+  write_tidy off window.Out = tidy fail w v k tt
+  write_tidy off (window.At place len) =
       let t = from_scratch l off place len v.scratch (dev_of v) in
       let u = at_dev t.dev v in
       let f = flushing l (dev_of u) in
       either (eqb t.count len) w (ran (whether (eqb f.status 0)) (at_dev f.dev u)) (ran fail u)
-      (tidy _ w _ (like k refl refl refl refl) (whether-brief (eqb f.status 0)))
+      (tidy _ w _ (like k refl refl refl refl) (whether_brief (eqb f.status 0)))
       (tidy fail w u (like k refl refl refl refl) tt)
 
-  take-tidy : (off : ℕ) (x : Window) → Tidy w (run_read l off x v)
+  take_tidy : (off : ℕ) (x : Window) → Tidy w (run_read l off x v)
   unfolding run_read
-  take-tidy off window.Out = tidy fail w v k tt
-  take-tidy off (window.At place len) =
-      tidy _ w _ (like k refl refl refl refl) (whether-brief (eqb (into_scratch l off place len v.scratch (dev_of v)).told.count len))
+  take_tidy off window.Out = tidy fail w v k tt
+  take_tidy off (window.At place len) =
+      tidy _ w _ (like k refl refl refl refl) (whether_brief (eqb (into_scratch l off place len v.scratch (dev_of v)).told.count len))
 
-  boot-tidy : (x : Window) → Tidy w (run_boot x v)
+  boot_tidy : (x : Window) → Tidy w (run_boot x v)
   unfolding run_boot
-  boot-tidy window.Out = tidy fail w v k tt
-  boot-tidy (window.At place len) = tidy _ w _ (like k refl refl refl refl) (omega arith)
+  boot_tidy window.Out = tidy fail w v k tt
+  boot_tidy (window.At place len) = tidy _ w _ (like k refl refl refl refl) (omega arith)
 
-  line-tidy : (x : Line) → Tidy w (run_by l v x)
-  line-tidy line.Bad = tidy fail w v k tt
-  line-tidy line.Done = tidy _ w v k (omega arith)
-  line-tidy (line.Erase start size) = erase-tidy start size
-  line-tidy (line.Write off len addr) = write-tidy off (window_of v.e.base (length v.scratch) addr len)
-  line-tidy (line.Read off len addr) = take-tidy off (window_of v.e.base (length v.scratch) addr len)
-  line-tidy (line.Boot addr len) = boot-tidy (window_of v.e.base (length v.scratch) addr len)
+  line_tidy : (x : Line) → Tidy w (run_by l v x)
+  line_tidy line.Bad = tidy fail w v k tt
+  line_tidy line.Done = tidy _ w v k (omega arith)
+  line_tidy (line.Erase start size) = erase_tidy start size
+  line_tidy (line.Write off len addr) = write_tidy off (window_of v.e.base (length v.scratch) addr len)
+  line_tidy (line.Read off len addr) = take_tidy off (window_of v.e.base (length v.scratch) addr len)
+  line_tidy (line.Boot addr len) = boot_tidy (window_of v.e.base (length v.scratch) addr len)
 
-text-tidy : (l : Lent) (d : List ℕ) (w : World) (x : Text) → Tidy w (shell_by l d w x)
+text_tidy : (l : Lent) (d : List ℕ) (w : World) (x : Text) → Tidy w (shell_by l d w x)
 unfolding run_line
-text-tidy l d w text.Bad = tidy fail w w (keeps-refl w) tt
-text-tidy l d w (text.Len n) = line-tidy l w _ (like (keeps-refl w) refl refl refl refl) (line_of (take n (drop 4 d)))
+text_tidy l d w text.Bad = tidy fail w w (keeps_refl w) tt
+text_tidy l d w (text.Len n) = line_tidy l w _ (like (keeps_refl w) refl refl refl refl) (line_of (take n (drop 4 d)))
 
-shell-tidy : (l : Lent) (d : List ℕ) (w : World) → Tidy w (shell l d w)
+shell_tidy : (l : Lent) (d : List ℕ) (w : World) → Tidy w (shell l d w)
 unfolding shell
-shell-tidy l d w = text-tidy l d w (text_of d)
+shell_tidy l d w = text_tidy l d w (text_of d)
 
 -- ---- every command
 
-pub runs-tidy : (g : Given) (c : ℕ) (d : List ℕ) (w : World) → Tidy w (runs g c d w)
+pub runs_tidy : (g : Given) (c : ℕ) (d : List ℕ) (w : World) → Tidy w (runs g c d w)
 unfolding runs
-runs-tidy g c d w = go (group_of c)
+runs_tidy g c d w = go (group_of c)
   where
     go : (x : Group) → Tidy w (runs_by g c d w x)
-    go group.Memory = memory-tidy c d w
-    go group.Shell = shell-tidy g.lent d w
-    go group.Storage = storing-tidy g c d w
-    go group.Plain = tidy _ w w (keeps-refl w) (plain-brief c w g.table)
+    go group.Memory = memory_tidy c d w
+    go group.Shell = shell_tidy g.lent d w
+    go group.Storage = storing_tidy g c d w
+    go group.Plain = tidy _ w w (keeps_refl w) (plain_brief c w g.table)

@@ -11,36 +11,36 @@ use Rattle.engine.specs.declared.shell.Window.TheVariants as window
 -- ---- the line of a payload
 
 module _ (s : List ℕ) where
-  pub text-short : length s < 4 → text.Bad ≡ text_of s
+  pub text_short : length s < 4 → text.Bad ≡ text_of s
   unfolding text_of
-  text-short h = rw (lt-leb 4 (length s) h)
+  text_short h = rw (lt-leb 4 (length s) h)
 
   module _ {n : ℕ} (e : n ≡ word_at 4 s 0) (h : 4 ≤ length s) where
-    pub text-cut : length s - 4 < n → text.Bad ≡ text_of s
+    pub text_cut : length s - 4 < n → text.Bad ≡ text_of s
     unfolding text_of
-    text-cut k = rw (← e, le-leb 4 (length s) h, lt-leb (4 + n) (length s) (omega arith))
+    text_cut k = rw (← e, le-leb 4 (length s) h, lt-leb (4 + n) (length s) (omega arith))
 
     -- the line is the part `&s[4..4 + n]`
     module _ (k : n ≤ length s - 4) {t : Bool} (u : t ≡ is_utf8 (take (4 + n - 4) (drop 4 s))) where
-      line-told : t ≡ is_utf8 (take n (drop 4 s))
-      line-told =
+      line_told : t ≡ is_utf8 (take n (drop 4 s))
+      line_told =
           let r : 4 + n - 4 ≡ n = omega arith in
           u ∙ ap (λ (m : ℕ). is_utf8 (take m (drop 4 s))) r
 
-      text-told : cond t (text.Len n) text.Bad ≡ text_of s
+      text_told : cond t (text.Len n) text.Bad ≡ text_of s
       unfolding text_of
-      text-told = rw (← e, le-leb 4 (length s) h, le-leb (4 + n) (length s) (omega arith), ← line-told)
+      text_told = rw (← e, le-leb 4 (length s) h, le-leb (4 + n) (length s) (omega arith), ← line_told)
 
-      pub text-good : t ≡ true → text.Len n ≡ text_of s
-      text-good v = ap (λ (b : Bool). cond b (text.Len n) text.Bad) (sym v) ∙ text-told
+      pub text_good : t ≡ true → text.Len n ≡ text_of s
+      text_good v = ap (λ (b : Bool). cond b (text.Len n) text.Bad) (sym v) ∙ text_told
 
-      pub text-bad : t ≡ false → text.Bad ≡ text_of s
-      text-bad v = ap (λ (b : Bool). cond b (text.Len n) text.Bad) (sym v) ∙ text-told
+      pub text_bad : t ≡ false → text.Bad ≡ text_of s
+      text_bad v = ap (λ (b : Bool). cond b (text.Len n) text.Bad) (sym v) ∙ text_told
 
   -- the line lies within the payload, and is UTF-8
-  pub text-fits : (n : ℕ) → text_of s ≡ text.Len n → (4 + n ≤ length s) × (is_utf8 (take n (drop 4 s)) ≡ true)
+  pub text_fits : (n : ℕ) → text_of s ≡ text.Len n → (4 + n ≤ length s) × (is_utf8 (take n (drop 4 s)) ≡ true)
   unfolding text_of
-  text-fits n =
+  text_fits n =
       go (leb 4 (length s)) (leb (4 + word_at 4 s 0) (length s)) (is_utf8 (take (word_at 4 s 0) (drop 4 s))) refl refl
     where
       go : (a b t : Bool) → leb (4 + word_at 4 s 0) (length s) ≡ b → is_utf8 (take (word_at 4 s 0) (drop 4 s)) ≡ t
@@ -53,25 +53,25 @@ module _ (s : List ℕ) where
 -- ---- a part of scratch
 
 module _ (base size addr len : ℕ) where
-  pub window-below : addr < base → window.Out ≡ window_of base size addr len
+  pub window_below : addr < base → window.Out ≡ window_of base size addr len
   unfolding window_of
-  window-below h = rw (lt-leb base addr h)
+  window_below h = rw (lt-leb base addr h)
 
   module _ (h : base ≤ addr) where
-    pub window-past : size ≤ addr - base → window.Out ≡ window_of base size addr len
+    pub window_past : size ≤ addr - base → window.Out ≡ window_of base size addr len
     unfolding window_of
-    window-past k = rw (le-leb base addr h, le-ltb addr (base + size) (omega arith))
+    window_past k = rw (le-leb base addr h, le-ltb addr (base + size) (omega arith))
 
-    pub window-at : addr - base < size → {n : ℕ} → n ≡ min len (size - (addr - base)) → window.At (addr - base) n ≡ window_of base size addr len
+    pub window_at : addr - base < size → {n : ℕ} → n ≡ min len (size - (addr - base)) → window.At (addr - base) n ≡ window_of base size addr len
     unfolding window_of
-    window-at k e =
+    window_at k e =
         let r : size - (addr - base) ≡ base + size - addr = omega arith in
         rw (le-leb base addr h, lt-ltb addr (base + size) (omega arith), e, r)
 
   -- the part lies within scratch
-  pub window-fits : (p n : ℕ) → window_of base size addr len ≡ window.At p n → (p < size) × (p + n ≤ size)
+  pub window_fits : (p n : ℕ) → window_of base size addr len ≡ window.At p n → (p < size) × (p + n ≤ size)
   unfolding window_of
-  window-fits p n = go (leb base addr) (ltb addr (base + size)) refl refl
+  window_fits p n = go (leb base addr) (ltb addr (base + size)) refl refl
     where
       go : (a b : Bool) → leb base addr ≡ a → ltb addr (base + size) ≡ b
           → cond (a && b) (window.At (addr - base) (min len (base + size - addr))) window.Out ≡ window.At p n → (p < size) × (p + n ≤ size)

@@ -65,26 +65,26 @@ abbrev shown : Out → ℕ × ℕ × List ℕ
 shown o = (o.status, o.w.e.frame.len, take o.w.e.said.len o.w.reply)
 
 -- P1, the write; the same in two cuts, of which the first is only gathered
-pub replay-writes :
+pub replay_writes :
     (shown (writes lends start asked) ≡ (0, 0, answer))
     × (shown (writes lends start (take 5 asked)) ≡ (0, 5, []))
     × (shown (writes lends (after (take 5 asked) start) (drop 5 asked)) ≡ (0, 0, answer))
 unfolding rooms_ok frame_ok said_ok up_ok engine_ok fits writes good in_bounds parts_fit nor_size held_ok lists_ok parts parts_of total all part_ok scratch_ok is_utf8 octets char_len first_of utf8_char utf8_1 any_of begins bytes_of le word_at checksum_of header_of accepted parsed feeds goes then_by want_by turns gathers fills heads next_of ripens execs order_of performs runs group_of one_of storing crc_query probed flushing by_good flushes ends replied reply_by status_by is_query
-replay-writes = (refl, refl, refl)
+replay_writes = (refl, refl, refl)
 
 -- the engine after a read into a room of so many bytes
 abbrev past : ℕ → World → World
 past n w = at_e (reads lends w (replicate n 7)).e w
 
 -- P1, the read: twenty bytes into a room of 64, whose other bytes stay. A room of 12 takes twelve and the next the rest; then none wait
-pub replay-reads :
+pub replay_reads :
     ((reads lends (after asked start) (replicate 64 7)).got ≡ got.Count 20)
     × ((reads lends (after asked start) (replicate 64 7)).room ≡ answer ++ replicate 44 7)
     × ((reads lends (after asked start) (replicate 12 7)).room ≡ take 12 answer)
     × ((reads lends (past 12 (after asked start)) (replicate 64 7)).room ≡ drop 12 answer ++ replicate 56 7)
     × ((reads lends (past 64 (after asked start)) (replicate 64 7)).got ≡ got.Count 0)
 unfolding reads rooms_ok frame_ok said_ok up_ok engine_ok fits writes good in_bounds parts_fit nor_size held_ok lists_ok parts parts_of total all part_ok scratch_ok is_utf8 octets char_len first_of utf8_char utf8_1 any_of begins bytes_of le word_at checksum_of header_of accepted parsed feeds goes then_by want_by turns gathers fills heads next_of ripens execs order_of performs runs group_of one_of storing crc_query probed flushing by_good flushes ends replied reply_by status_by is_query
-replay-reads = (refl, refl, refl, refl, refl)
+replay_reads = (refl, refl, refl, refl, refl)
 
 -- a header that is refused leaves the reply that waits; a write of no bytes leaves all
 pub kept :

@@ -63,11 +63,11 @@ unfolding le word_at sent pair_of inside read_of
 reads = (refl, refl, refl, refl, refl)
 
 -- 4,112 bytes are too many for a reply and give the odd one; 4,113 give OK with no data
-pub reads-long :
+pub reads_long :
     (read_of 0 (replicate 4113 7) (bytes_of 4 0 ++ bytes_of 4 4112) ≡ odd)
     × (read_of 0 (replicate 4113 7) (bytes_of 4 0 ++ bytes_of 4 4113) ≡ ok [])
 unfolding bytes_of le word_at sent pair_of inside read_of
-reads-long = (refl, refl)
+reads_long = (refl, refl)
 
 -- a byte behind those that the pair counts is not laid; a byte missing refuses the command, and so does one past the end
 pub writes :

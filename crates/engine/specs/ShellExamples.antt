@@ -55,14 +55,14 @@ windows = (refl, refl, refl, refl)
 
 -- ---- device tables: room for the name, whose address wraps; no room for it, and none for the last word
 
-pub table-whole :
+pub table_whole :
     boot_table 0xFFFFFFF0 0x10 4096 0x1_0000_8000 (replicate 0x52 7)
     ≡ (1 ∷ 0 ∷ 0 ∷ 0 ∷ replicate 4 0) ++ (2 ∷ 0 ∷ 0 ∷ 0 ∷ replicate 12 0)
     ++ (0 ∷ 16 ∷ 0 ∷ 0 ∷ 0 ∷ 16 ∷ 0 ∷ 0 ∷ 0 ∷ 128 ∷ 0 ∷ 0 ∷ 0x40 ∷ 0 ∷ 0 ∷ 0 ∷ replicate 24 0)
     ++ ascii "artinchip spi-nor" ++ (0 ∷ [])
 unfolding bytes_of laid boot_words boot_name boot_table
-table-whole = refl
+table_whole = refl
 
-pub table-short : boot_table 0 0 4096 0x8000 (replicate 0x23 7) ≡ (1 ∷ 0 ∷ 0 ∷ 0 ∷ replicate 4 0) ++ (2 ∷ 0 ∷ 0 ∷ 0 ∷ replicate 12 0) ++ (0 ∷ 16 ∷ 0 ∷ 0 ∷ 0 ∷ 16 ∷ 0 ∷ 0 ∷ replicate 3 0)
+pub table_short : boot_table 0 0 4096 0x8000 (replicate 0x23 7) ≡ (1 ∷ 0 ∷ 0 ∷ 0 ∷ replicate 4 0) ++ (2 ∷ 0 ∷ 0 ∷ 0 ∷ replicate 12 0) ++ (0 ∷ 16 ∷ 0 ∷ 0 ∷ 0 ∷ 16 ∷ 0 ∷ 0 ∷ replicate 3 0)
 unfolding bytes_of laid boot_words boot_name boot_table
-table-short = refl
+table_short = refl

@@ -1,5 +1,5 @@
 -- A status query alone in a write (01, 'Frame rules'). To an engine in bounds and between frames it is a whole frame with no data: it
--- is answered at once, and leaves all but the reply, the place in it and the front of the request room as they were (`query-alone`).
+-- is answered at once, and leaves all but the reply, the place in it and the front of the request room as they were (`query_alone`).
 -- So such a write hangs on the record, the table text and the two rooms, and touches neither the storage nor scratch.
 use Rattle.std.proofs.Math.Path.{◌≡◌, refl, ap, subst}
 use Rattle.std.proofs.Common.{sym, ◌∙◌, arith}
@@ -14,7 +14,7 @@ use Rattle.wire.specs.Header.{parsed}
 use Rattle.wire.specs.declared.header.Header.{Header}
 use Rattle.wire.specs.declared.header.Header.TheVariants as header
 use Rattle.storage.specs.Open.{one_of}
-use Rattle.storage.proofs.Fold.{false-true}
+use Rattle.storage.proofs.Fold.{false_true}
 use Rattle.engine.specs.declared.exec.Group.{Group}
 use Rattle.engine.specs.declared.exec.Group.TheVariants as group
 use Rattle.engine.specs.declared.short.Alone.TheVariants.{Other, Query}
@@ -26,10 +26,10 @@ use Rattle.engine.specs.Feed.{feeds}
 use Rattle.engine.specs.Api.{fits, writes}
 use Rattle.engine.specs.Short.{query_in, alone_by, alone_of, answer_of, answers}
 use Rattle.engine.proofs.Execs.{looks}
-use Rattle.engine.proofs.Replies.{laid-sets, Brief, ends_is}
-use Rattle.engine.proofs.Tidies.{runs-tidy}
-use Rattle.engine_laws.specs.Bounds.{in_bounds, write-feeds}
-use Rattle.engine_laws.specs.Whole.{at_request, emptied_at, between_is, frame-done}
+use Rattle.engine.proofs.Replies.{laid_sets, Brief, ends_is}
+use Rattle.engine.proofs.Tidies.{runs_tidy}
+use Rattle.engine_laws.specs.Bounds.{in_bounds, write_feeds}
+use Rattle.engine_laws.specs.Whole.{at_request, emptied_at, between_is, frame_done}
 
 -- ---- what the bytes ask
 
@@ -43,11 +43,11 @@ pub record Asks (bytes : List ℕ) (c : ℕ) : Type 0 where
 
 module _ (c : ℕ) where
   -- the group of a query that is answered so is that of the plain commands
-  plain-group : (d : ℕ) (x : Group) → query_in d x ≡ Query c → (d ≡ c) × (x ≡ group.Plain)
-  plain-group d group.Memory e = absurd (let z : ◌≡◌ {A = ℕ} 0 1 = cc in omega arith)
-  plain-group d group.Shell e = absurd (let z : ◌≡◌ {A = ℕ} 0 1 = cc in omega arith)
-  plain-group d group.Storage e = absurd (let z : ◌≡◌ {A = ℕ} 0 1 = cc in omega arith)
-  plain-group d group.Plain e = (cc, refl)
+  plain_group : (d : ℕ) (x : Group) → query_in d x ≡ Query c → (d ≡ c) × (x ≡ group.Plain)
+  plain_group d group.Memory e = absurd (let z : ◌≡◌ {A = ℕ} 0 1 = cc in omega arith)
+  plain_group d group.Shell e = absurd (let z : ◌≡◌ {A = ℕ} 0 1 = cc in omega arith)
+  plain_group d group.Storage e = absurd (let z : ◌≡◌ {A = ℕ} 0 1 = cc in omega arith)
+  plain_group d group.Plain e = (cc, refl)
 
   -- both tests of a header hold
   tests : (n d : ℕ) (a b : Bool) → eqb n 0 ≡ a → is_query d ≡ b → cond (a && b) (query_in d (group_of d)) Other ≡ Query c
@@ -66,7 +66,7 @@ module _ (c : ℕ) where
       go true k header.Bad p e = absurd (let z : ◌≡◌ {A = ℕ} 0 1 = cc in omega arith)
       go true k (header.Request d s n) p e =
           let t = tests n d (eqb n 0) (is_query d) refl refl e in
-          let x = plain-group d (group_of d) t.2 in
+          let x = plain_group d (group_of d) t.2 in
           record {
             status = s;
             sixteen = eqb-true (length bytes) 16 k;
@@ -76,9 +76,9 @@ module _ (c : ℕ) where
           }
 
   -- SEND_FWC_DATA does not only look
-  not-send : is_query c ≡ true → c ≡ 0x12 → ⊥
+  not_send : is_query c ≡ true → c ≡ 0x12 → ⊥
   unfolding is_query one_of
-  not-send h e = false-true (ap is_query (sym e) ∙ h)
+  not_send h e = false_true (ap is_query (sym e) ∙ h)
 
 -- ---- what is answered
 
@@ -96,39 +96,39 @@ module _ (g : Given) (w : World) (bytes : List ℕ) (c : ℕ) (f : fits g w ≡ 
   between v m n = between_is v (λ i. record { len = m i; total = n i })
 
   -- a query begins by changing nothing
-  begun-is : at_e (begun c w.e) asked ≡ asked
-  begun-is =
+  begun_is : at_e (begun c w.e) asked ≡ asked
+  begun_is =
       ap (λ (b : Bool). at_e (emptied (with_flags b w.e.asked w.e)) asked) (looks c w.e.upgrading a.query) ∙ between asked l t
 
-  laid-is : sets w.request 0 bytes ≡ laid w.request 0 bytes
-  laid-is = sym (laid-sets w.request 0 bytes (omega (arith, a.sixteen, (in_bounds g w f).fit.mid.request)))
+  laid_is : sets w.request 0 bytes ≡ laid w.request 0 bytes
+  laid_is = sym (laid_sets w.request 0 bytes (omega (arith, a.sixteen, (in_bounds g w f).fit.mid.request)))
 
-  runs-is : runs g c [] asked ≡ ran told asked
+  runs_is : runs g c [] asked ≡ ran told asked
   unfolding runs
-  runs-is = ap (runs_by g c [] asked) a.kind
+  runs_is = ap (runs_by g c [] asked) a.kind
 
   -- the command is run on no data, and answered
   done : feeds g w bytes ≡ ends c told asked
   done =
       ap (λ (v : World). feeds g v bytes) (sym (between w l t))
       ∙ ap (feeds g (emptied_at w)) (sym (append-nil bytes))
-      ∙ frame-done g w z bytes [] a.sixteen (omega (arith, (in_bounds g w f).fit.mid.request)) c a.status a.says (not-send c a.query) (omega arith)
-      ∙ ap (λ (q : List ℕ). answered c (runs g c [] (at_e (begun c w.e) (at_request q w)))) laid-is
-      ∙ ap (λ (v : World). answered c (runs g c [] v)) begun-is
-      ∙ ap (answered c) runs-is
+      ∙ frame_done g w z bytes [] a.sixteen (omega (arith, (in_bounds g w f).fit.mid.request)) c a.status a.says (not_send c a.query) (omega arith)
+      ∙ ap (λ (q : List ℕ). answered c (runs g c [] (at_e (begun c w.e) (at_request q w)))) laid_is
+      ∙ ap (λ (v : World). answered c (runs g c [] v)) begun_is
+      ∙ ap (answered c) runs_is
 
   brief : Brief told
-  brief = subst (λ (r : Ran). Brief r.answer) runs-is (runs-tidy g c [] asked).brief
+  brief = subst (λ (r : Ran). Brief r.answer) runs_is (runs_tidy g c [] asked).brief
 
-  answer-is : ends_by c (ended_by told) (at_reply (placed told w.reply) asked) ≡ answers w bytes (answer_of c w.e g.table w.reply)
+  answer_is : ends_by c (ended_by told) (at_reply (placed told w.reply) asked) ≡ answers w bytes (answer_of c w.e g.table w.reply)
   unfolding ends_by answer_of
-  answer-is = refl
+  answer_is = refl
 
-  asked-alone : writes g w bytes ≡ answers w bytes (answer_of c w.e g.table w.reply)
-  asked-alone = write-feeds g w f bytes ∙ done ∙ sym (ends_is c told asked (in_bounds g w f).fit.mid.reply brief) ∙ answer-is
+  asked_alone : writes g w bytes ≡ answers w bytes (answer_of c w.e g.table w.reply)
+  asked_alone = write_feeds g w f bytes ∙ done ∙ sym (ends_is c told asked (in_bounds g w f).fit.mid.reply brief) ∙ answer_is
 
 -- THE LAW: between frames, a query alone in a write is answered at once, and all but its reply and the request room's front is as it was
-pub query-alone : (g : Given) (w : World) (bytes : List ℕ) (c : ℕ) → fits g w ≡ true → w.e.frame.len ≡ 0 → w.e.frame.total ≡ 0 → w.e.up.left ≡ 0
+pub query_alone : (g : Given) (w : World) (bytes : List ℕ) (c : ℕ) → fits g w ≡ true → w.e.frame.len ≡ 0 → w.e.frame.total ≡ 0 → w.e.up.left ≡ 0
     → alone_of bytes ≡ Query c
     → writes g w bytes ≡ answers w bytes (answer_of c w.e g.table w.reply)
-query-alone g w bytes c f l t z q = asked-alone g w bytes c f l t z (asks c bytes q)
+query_alone g w bytes c f l t z q = asked_alone g w bytes c f l t z (asks c bytes q)

@@ -1,6 +1,6 @@
--- Reads and short queries on the state's bytes. Row 9 is tested without the record being put together (`fits-so`, `fits_not`); a state in
--- bounds whose frame is as long as its total is between frames (`idle-so`), so that a query alone is the answer that `query-alone` of
--- engine_laws gives (`query-told`); and a read is the next bytes of the reply (`next-told`, `read_told`).
+-- Reads and short queries on the state's bytes. Row 9 is tested without the record being put together (`fits_so`, `fits_not`); a state in
+-- bounds whose frame is as long as its total is between frames (`idle-so`), so that a query alone is the answer that `query_alone` of
+-- engine_laws gives (`query_told`); and a read is the next bytes of the reply (`next_told`, `read_told`).
 use mathlib.Core.Path.{◌≡◌, refl, sym, ap, ◌∙◌}
 use mathlib.Core.Bool.{Bool, true, false, ◌&&◌, cond}
 use mathlib.Core.List.{List}
@@ -28,18 +28,18 @@ use Rattle.engine.specs.Command.{plain, asking}
 use Rattle.engine.specs.Short.{alone_of, Answer, answered, answered_by, answer_of, answers}
 use Rattle.engine.specs.Feed.{SaidFit, FrameFit}
 use Rattle.engine.specs.Api.{rooms_ok, frame_ok, said_ok, bounds_ok, up_ok, engine_ok, fits, writes, reads}
-use Rattle.engine.proofs.Commands.{plain-sees}
-use Rattle.engine.proofs.Apis.{world-fit}
-use Rattle.engine_laws.specs.Query.{query-alone}
+use Rattle.engine.proofs.Commands.{plain_sees}
+use Rattle.engine.proofs.Apis.{world_fit}
+use Rattle.engine_laws.specs.Query.{query_alone}
 use Rattle.lamjhotu.specs.State.{set_of, frame_at, said_at, update_at, shape_at, store_at, unpack_of}
 use Rattle.lamjhotu.specs.Calls.{kept, wrote, wrote_by, writes_in, Took, took, reads_in, fits_but, idle_of, Asked, asks, asked, next_by}
-use Rattle.lamjhotu.specs.CallLaws.{write-refused, read-refused}
+use Rattle.lamjhotu.specs.CallLaws.{write_refused, read_refused}
 use Rattle.lamjhotu.proofs.Exports.{yes}
 
 -- ---- tests that went so
 
-true-not-false : true ≡ false → ⊥
-true-not-false h = eqb-false 0 0 h refl
+true_not_false : true ≡ false → ⊥
+true_not_false h = eqb-false 0 0 h refl
 
 no_last : (a b c : Bool) {d : Bool} → d ≡ false → false ≡ (a && (b && (c && d)))
 no_last false b c h = refl
@@ -47,45 +47,45 @@ no_last true false c h = refl
 no_last true true false h = refl
 no_last true true true h = sym h
 
-no-first : (a b c d : Bool) → (a && b) ≡ false → false ≡ (a && (b && (c && d)))
-no-first false b c d h = refl
-no-first true false c d h = refl
-no-first true true c d h = absurd (true-not-false h)
+no_first : (a b c d : Bool) → (a && b) ≡ false → false ≡ (a && (b && (c && d)))
+no_first false b c d h = refl
+no_first true false c d h = refl
+no_first true true c d h = absurd (true_not_false h)
 
 both_so : (a b c : Bool) {d : Bool} → (a && b) ≡ true → d ≡ true → c ≡ (a && (b && (c && d)))
 both_so true true true h i = sym i
 both_so true true false h i = refl
-both_so true false c h i = absurd (true-not-false (sym h))
-both_so false b c h i = absurd (true-not-false (sym h))
+both_so true false c h i = absurd (true_not_false (sym h))
+both_so false b c h i = absurd (true_not_false (sym h))
 
-with-lists : (a b c l d : Bool) → (a && (b && (c && d))) ≡ true → l ≡ true → (a && (b && (c && (l && d)))) ≡ true
-with-lists true true true true d h i = h
-with-lists true true true false d h i = absurd (true-not-false (sym i))
-with-lists true true false l d h i = absurd (true-not-false (sym h))
-with-lists true false c l d h i = absurd (true-not-false (sym h))
-with-lists false b c l d h i = absurd (true-not-false (sym h))
+with_lists : (a b c l d : Bool) → (a && (b && (c && d))) ≡ true → l ≡ true → (a && (b && (c && (l && d)))) ≡ true
+with_lists true true true true d h i = h
+with_lists true true true false d h i = absurd (true_not_false (sym i))
+with_lists true true false l d h i = absurd (true_not_false (sym h))
+with_lists true false c l d h i = absurd (true_not_false (sym h))
+with_lists false b c l d h i = absurd (true_not_false (sym h))
 
-not-lists : (a b c l d : Bool) → l ≡ false → (a && (b && (c && (l && d)))) ≡ false
-not-lists true true true true d i = absurd (true-not-false i)
-not-lists true true true false d i = refl
-not-lists true true false l d i = refl
-not-lists true false c l d i = refl
-not-lists false b c l d i = refl
+not_lists : (a b c l d : Bool) → l ≡ false → (a && (b && (c && (l && d)))) ≡ false
+not_lists true true true true d i = absurd (true_not_false i)
+not_lists true true true false d i = refl
+not_lists true true false l d i = refl
+not_lists true false c l d i = refl
+not_lists false b c l d i = refl
 
-not-rest : (a b c l d : Bool) → (a && (b && (c && d))) ≡ false → (a && (b && (c && (l && d)))) ≡ false
-not-rest true true true true d h = h
-not-rest true true true false d h = refl
-not-rest true true false l d h = refl
-not-rest true false c l d h = refl
-not-rest false b c l d h = refl
+not_rest : (a b c l d : Bool) → (a && (b && (c && d))) ≡ false → (a && (b && (c && (l && d)))) ≡ false
+not_rest true true true true d h = h
+not_rest true true true false d h = refl
+not_rest true true false l d h = refl
+not_rest true false c l d h = refl
+not_rest false b c l d h = refl
 
 -- ---- row 9
 
 module _ (s : List ℕ) (chip marks buffer : ℕ) where
-  pub nor-told : {r : Bool} → set_of (get_or s 138 0) ≡ true → r ≡ nor_fits (word_at 8 s 56) (set_of (get_or s 137 0)) (word_at 8 s 88) chip buffer
+  pub nor_told : {r : Bool} → set_of (get_or s 138 0) ≡ true → r ≡ nor_fits (word_at 8 s 56) (set_of (get_or s 137 0)) (word_at 8 s 88) chip buffer
       → r ≡ (in_bounds (store_at s) && parts_fit (store_at s) chip marks buffer)
   unfolding nor_fits in_bounds parts_fit store_at shape_at
-  nor-told h k = rw h k
+  nor_told h k = rw h k
 
 module _ (s : List ℕ) (request reply chip buffer scratch marks : ℕ) where
   abbrev fine : Bool
@@ -94,73 +94,73 @@ module _ (s : List ℕ) (request reply chip buffer scratch marks : ℕ) where
   abbrev numbers : Bool
   numbers = frame_ok (frame_at s) && (said_ok (said_at s) && bounds_ok (word_at 8 s 32) (word_at 8 s 40) (word_at 8 s 48))
 
-  pub but-scratch : scratch_ok (word_at 4 s 124) scratch ≡ false → false ≡ fits_but (unpack_of s) request reply chip buffer scratch marks
+  pub but_scratch : scratch_ok (word_at 4 s 124) scratch ≡ false → false ≡ fits_but (unpack_of s) request reply chip buffer scratch marks
   unfolding fits_but engine_ok up_ok unpack_of update_at
-  but-scratch h = no_last (rooms_ok request reply) numbers fine h
+  but_scratch h = no_last (rooms_ok request reply) numbers fine h
 
-  pub but-numbers : (rooms_ok request reply && numbers) ≡ false → false ≡ fits_but (unpack_of s) request reply chip buffer scratch marks
+  pub but_numbers : (rooms_ok request reply && numbers) ≡ false → false ≡ fits_but (unpack_of s) request reply chip buffer scratch marks
   unfolding fits_but engine_ok up_ok unpack_of update_at
-  but-numbers h = no-first (rooms_ok request reply) numbers fine (scratch_ok (word_at 4 s 124) scratch) h
+  but_numbers h = no_first (rooms_ok request reply) numbers fine (scratch_ok (word_at 4 s 124) scratch) h
 
-  pub but-told : {r : Bool} → (rooms_ok request reply && numbers) ≡ true → scratch_ok (word_at 4 s 124) scratch ≡ true → r ≡ fine
+  pub but_told : {r : Bool} → (rooms_ok request reply && numbers) ≡ true → scratch_ok (word_at 4 s 124) scratch ≡ true → r ≡ fine
       → r ≡ fits_but (unpack_of s) request reply chip buffer scratch marks
   unfolding fits_but engine_ok up_ok unpack_of update_at
-  but-told h i j = j ∙ both_so (rooms_ok request reply) numbers fine h i
+  but_told h i j = j ∙ both_so (rooms_ok request reply) numbers fine h i
 
 module _ (g : Given) (s q p c b x : List ℕ) where
-  abbrev at-state : World
-  at-state = world (unpack_of s) q p c b x
+  abbrev at_state : World
+  at_state = world (unpack_of s) q p c b x
 
   abbrev but : Bool
   but = fits_but (unpack_of s) (length q) (length p) (length c) (length b) (length x) (length g.lent.marks)
 
-  pub fits-so : but ≡ true → lists_ok g.lists ≡ true → fits g at-state ≡ true
+  pub fits_so : but ≡ true → lists_ok g.lists ≡ true → fits g at_state ≡ true
   unfolding fits fits_but good
-  fits-so h i =
-      with-lists (rooms_ok (length q) (length p)) (engine_ok (unpack_of s)) (good g.lent (dev_of at-state)) (lists_ok g.lists) (scratch_ok (unpack_of s).base (length x)) h i
+  fits_so h i =
+      with_lists (rooms_ok (length q) (length p)) (engine_ok (unpack_of s)) (good g.lent (dev_of at_state)) (lists_ok g.lists) (scratch_ok (unpack_of s).base (length x)) h i
 
-  pub fits-lists : lists_ok g.lists ≡ false → fits g at-state ≡ false
+  pub fits_lists : lists_ok g.lists ≡ false → fits g at_state ≡ false
   unfolding fits
-  fits-lists i =
-      not-lists (rooms_ok (length q) (length p)) (engine_ok (unpack_of s)) (good g.lent (dev_of at-state)) (lists_ok g.lists) (scratch_ok (unpack_of s).base (length x)) i
+  fits_lists i =
+      not_lists (rooms_ok (length q) (length p)) (engine_ok (unpack_of s)) (good g.lent (dev_of at_state)) (lists_ok g.lists) (scratch_ok (unpack_of s).base (length x)) i
 
-  pub fits_not : but ≡ false → fits g at-state ≡ false
+  pub fits_not : but ≡ false → fits g at_state ≡ false
   unfolding fits fits_but good
   fits_not h =
-      not-rest (rooms_ok (length q) (length p)) (engine_ok (unpack_of s)) (good g.lent (dev_of at-state)) (lists_ok g.lists) (scratch_ok (unpack_of s).base (length x)) h
+      not_rest (rooms_ok (length q) (length p)) (engine_ok (unpack_of s)) (good g.lent (dev_of at_state)) (lists_ok g.lists) (scratch_ok (unpack_of s).base (length x)) h
 
 -- ---- an answer
 
-status-few : (x : Ended) → status_is x ≡ 9 → ⊥
+status_few : (x : Ended) → status_is x ≡ 9 → ⊥
 unfolding status_is
-status-few (Ok n) h = omega arith
-status-few Fail h = omega arith
-status-few Unsupported h = omega arith
-status-few Odd h = omega arith
+status_few (Ok n) h = omega arith
+status_few Fail h = omega arith
+status_few Unsupported h = omega arith
+status_few Odd h = omega arith
 
-answer-few : (c : ℕ) (e : Engine) (t p : List ℕ) → (answer_of c e t p).status ≡ 9 → ⊥
+answer_few : (c : ℕ) (e : Engine) (t p : List ℕ) → (answer_of c e t p).status ≡ 9 → ⊥
 unfolding answer_of
-answer-few c e t p h = status-few (placing (plain c e t) p).ended h
+answer_few c e t p h = status_few (placing (plain c e t) p).ended h
 
 -- the answer from the record's four parts
-pub answer-sees : (c : ℕ) (e : Engine) (t p : List ℕ) → answer_of c (asking e.base e.up.burn e.up.run e.store) t p ≡ answer_of c e t p
+pub answer_sees : (c : ℕ) (e : Engine) (t p : List ℕ) → answer_of c (asking e.base e.up.burn e.up.run e.store) t p ≡ answer_of c e t p
 unfolding answer_of
-answer-sees c e t p = ap (λ (a : said.Answer). answered_by c (placing a p)) (plain-sees c e t)
+answer_sees c e t p = ap (λ (a : said.Answer). answered_by c (placing a p)) (plain_sees c e t)
 
 -- the answer of a state's record, from its four parts, and its place in the state
-pub ask-told : (s q p d tb : List ℕ) (k : ℕ) {st : Store} {base burn run : ℕ} {r : Answered} {t u v : List ℕ} → st ≡ store_at s → base ≡ word_at 4 s 124 → burn ≡ word_at 4 s 116
+pub ask_told : (s q p d tb : List ℕ) (k : ℕ) {st : Store} {base burn run : ℕ} {r : Answered} {t u v : List ℕ} → st ≡ store_at s → base ≡ word_at 4 s 124 → burn ≡ word_at 4 s 116
     → run ≡ word_at 4 s 120 → answered r v ≡ answer_of k (asking base burn run st) tb p → u ≡ laid q 0 d
     → t ≡ kept s (with_said (record { len = r.len; pos = 0 }) (unpack_of s)) → asks r.status t u v ≡ asked s q d (answer_of k (unpack_of s) tb p)
 unfolding unpack_of update_at
-ask-told s q p d tb k {r = r} {v = v} a b c e f h i =
-    let g : answered r v ≡ answer_of k (unpack_of s) tb p = f ∙ rw (a, b, c, e) (answer-sees k (unpack_of s) tb p) in
+ask_told s q p d tb k {r = r} {v = v} a b c e f h i =
+    let g : answered r v ≡ answer_of k (unpack_of s) tb p = f ∙ rw (a, b, c, e) (answer_sees k (unpack_of s) tb p) in
     rw (h, i) (ap (asked s q d) g)
 
 -- ---- a query alone, between frames
 
 -- what a state in bounds says whose frame is as long as its total
-frame-none : (f : Frame) → FrameFit f → f.len ≡ f.total → f.total ≡ 0
-frame-none f h i = go f.total refl
+frame_none : (f : Frame) → FrameFit f → f.len ≡ f.total → f.total ≡ 0
+frame_none f h i = go f.total refl
   where
     go : (n : ℕ) → f.total ≡ n → f.total ≡ 0
     go zero e = e
@@ -172,12 +172,12 @@ and_first false b h = h
 
 and_second : (a b : Bool) → (a && b) ≡ true → b ≡ true
 and_second true b h = h
-and_second false b h = absurd (true-not-false (sym h))
+and_second false b h = absurd (true_not_false (sym h))
 
 module _ (g : Given) (s q p c b x : List ℕ) (f : fits g (world (unpack_of s) q p c b x) ≡ true) (i : idle_of s ≡ true) where
-  frame-of : FrameFit (frame_at s)
+  frame_of : FrameFit (frame_at s)
   unfolding unpack_of
-  frame-of = (world-fit g (world (unpack_of s) q p c b x) f).frame
+  frame_of = (world_fit g (world (unpack_of s) q p c b x) f).frame
 
   len_is : word_at 8 s 0 ≡ word_at 8 s 8
   unfolding idle_of
@@ -187,78 +187,78 @@ module _ (g : Given) (s q p c b x : List ℕ) (f : fits g (world (unpack_of s) q
   unfolding idle_of
   left_is = eqb-true (word_at 8 s 48) (word_at 8 s 8) (and_second (eqb (word_at 8 s 0) (word_at 8 s 8)) (eqb (word_at 8 s 48) (word_at 8 s 8)) i)
 
-  total-none : word_at 8 s 8 ≡ 0
-  total-none = frame-none (frame_at s) frame-of len_is
+  total_none : word_at 8 s 8 ≡ 0
+  total_none = frame_none (frame_at s) frame_of len_is
 
   -- the write of a query alone is its answer
-  pub query-told : (d : List ℕ) {n : ℕ} {t u v : List ℕ} {k : ℕ} → 652 ≤ length s → alone_of d ≡ Query k → asks n t u v ≡ asked s q d (answer_of k (unpack_of s) g.table p)
+  pub query_told : (d : List ℕ) {n : ℕ} {t u v : List ℕ} {k : ℕ} → 652 ≤ length s → alone_of d ≡ Query k → asks n t u v ≡ asked s q d (answer_of k (unpack_of s) g.table p)
       → wrote n t u v c b x ≡ writes_in g s q p c b x d
   unfolding writes_in unpack_of update_at
-  query-told d {k = k} h a r =
+  query_told d {k = k} h a r =
       let w : World = world (unpack_of s) q p c b x in
       let y : Answer = answer_of k (unpack_of s) g.table p in
-      let o : writes g w d ≡ answers w d y = query-alone g w d k f (len_is ∙ total-none) total-none (left_is ∙ total-none) a in
+      let o : writes g w d ≡ answers w d y = query_alone g w d k f (len_is ∙ total_none) total_none (left_is ∙ total_none) a in
       ap (λ (z : Asked). wrote z.number z.state z.request z.reply c b x) r
-      ∙ ap (λ (t : Bool). wrote y.status (cond t s (kept s (with_said (record { len = y.len; pos = 0 }) (unpack_of s)))) (laid q 0 d) y.reply c b x) (sym (ne_eqb y.status 9 (answer-few k (unpack_of s) g.table p)))
+      ∙ ap (λ (t : Bool). wrote y.status (cond t s (kept s (with_said (record { len = y.len; pos = 0 }) (unpack_of s)))) (laid q 0 d) y.reply c b x) (sym (ne_eqb y.status 9 (answer_few k (unpack_of s) g.table p)))
       ∙ ap (wrote_by s) (sym o)
       ∙ yes _ _ (le-leb 652 (length s) h)
 
 -- ---- a refusal
 
 module _ (g : Given) (s q p c b x : List ℕ) (f : fits g (world (unpack_of s) q p c b x) ≡ false) where
-  pub write-none : (d : List ℕ) → wrote 9 s q p c b x ≡ writes_in g s q p c b x d
-  write-none d = sym (write-refused g s q p c b x f d)
+  pub write_none : (d : List ℕ) → wrote 9 s q p c b x ≡ writes_in g s q p c b x d
+  write_none d = sym (write_refused g s q p c b x f d)
 
   pub read_none : (room : List ℕ) → took (2 ^ 32 - 1) s room ≡ reads_in g s q p c b x room
-  read_none room = sym (read-refused g s q p c b x f room)
+  read_none room = sym (read_refused g s q p c b x f room)
 
 -- ---- a read
 
-said-within : (a : Said) → said_ok a ≡ true → SaidFit a
+said_within : (a : Said) → said_ok a ≡ true → SaidFit a
 unfolding said_ok
-said-within a h =
+said_within a h =
     let i = and_first (leb a.pos a.len) (leb a.len 4112) h in
     let j = and_second (leb a.pos a.len) (leb a.len 4112) h in
     (leb-true a.pos a.len i, leb-true a.len 4112 j)
 
 -- the bounds of a reply's place
-pub said-fit : {a : Said} (b : Said) → a ≡ b → SaidFit b → SaidFit a
-said-fit b h i = rw h i
+pub said_fit : {a : Said} (b : Said) → a ≡ b → SaidFit b → SaidFit a
+said_fit b h i = rw h i
 
-but-said : (a f h i c d : Bool) → (a && ((f && (h && i)) && (c && d))) ≡ true → (a ≡ true) × (h ≡ true)
-but-said true true true i c d k = (refl, refl)
-but-said true true false i c d k = absurd (true-not-false (sym k))
-but-said true false h i c d k = absurd (true-not-false (sym k))
-but-said false f h i c d k = absurd (true-not-false (sym k))
+but_said : (a f h i c d : Bool) → (a && ((f && (h && i)) && (c && d))) ≡ true → (a ≡ true) × (h ≡ true)
+but_said true true true i c d k = (refl, refl)
+but_said true true false i c d k = absurd (true_not_false (sym k))
+but_said true false h i c d k = absurd (true_not_false (sym k))
+but_said false f h i c d k = absurd (true_not_false (sym k))
 
-pub read-fit : (s : List ℕ) (request reply chip buffer scratch marks : ℕ) → fits_but (unpack_of s) request reply chip buffer scratch marks ≡ true
+pub read_fit : (s : List ℕ) (request reply chip buffer scratch marks : ℕ) → fits_but (unpack_of s) request reply chip buffer scratch marks ≡ true
     → SaidFit (said_at s) × (reply ≡ 4112)
 unfolding fits_but engine_ok up_ok rooms_ok unpack_of update_at
-read-fit s request reply chip buffer scratch marks h =
+read_fit s request reply chip buffer scratch marks h =
     let k : (rooms_ok request reply ≡ true) × (said_ok (said_at s) ≡ true) =
-    but-said (rooms_ok request reply) (frame_ok (frame_at s)) (said_ok (said_at s)) (bounds_ok (word_at 8 s 32) (word_at 8 s 40) (word_at 8 s 48))
+    but_said (rooms_ok request reply) (frame_ok (frame_at s)) (said_ok (said_at s)) (bounds_ok (word_at 8 s 32) (word_at 8 s 40) (word_at 8 s 48))
     (in_bounds (store_at s) && parts_fit (store_at s) chip marks buffer) (scratch_ok (word_at 4 s 124) scratch) h in
-    (said-within (said_at s) k.1, eqb-true reply 4112 (and_second (eqb request 8208) (eqb reply 4112) k.0))
+    (said_within (said_at s) k.1, eqb-true reply 4112 (and_second (eqb request 8208) (eqb reply 4112) k.0))
 
 module _ (s p room : List ℕ) where
   abbrev pos : ℕ
   pos = word_at 8 s 24
 
-  pub next-told : {n : ℕ} {t y : List ℕ} → length p ≡ 4112 → SaidFit (said_at s) → n ≡ min (word_at 8 s 16 - pos) (length room)
+  pub next_told : {n : ℕ} {t y : List ℕ} → length p ≡ 4112 → SaidFit (said_at s) → n ≡ min (word_at 8 s 16 - pos) (length room)
       → y ≡ laid room 0 (take (pos + n - pos) (drop pos p)) → t ≡ kept s (with_said (record { len = word_at 8 s 16; pos = pos + n }) (unpack_of s))
       → took n t y ≡ next_by s p room
   unfolding next_by laid
-  next-told {n} l h i j k =
+  next_told {n} l h i j k =
       let e : pos + n - pos ≡ n = omega arith in
       let m : 0 + length (take n (drop pos p)) ≤ length room = omega (arith, length-take n (drop pos p)) in
       rw (j, e, le-leb (0 + length (take n (drop pos p))) (length room) m, k, ← i)
 
 -- the same from the place that the code has read
-pub next-so : (s p room : List ℕ) {a : Said} {n : ℕ} {t y : List ℕ} → length p ≡ 4112 → SaidFit (said_at s) → a ≡ said_at s → n ≡ min (a.len - a.pos) (length room)
+pub next_so : (s p room : List ℕ) {a : Said} {n : ℕ} {t y : List ℕ} → length p ≡ 4112 → SaidFit (said_at s) → a ≡ said_at s → n ≡ min (a.len - a.pos) (length room)
     → y ≡ laid room 0 (take (a.pos + n - a.pos) (drop a.pos p)) → t ≡ kept s (with_said (record { len = a.len; pos = a.pos + n }) (unpack_of s))
     → took n t y ≡ next_by s p room
-next-so s p room {a} {n} {t} {y} l h e i j k =
-    next-told s p room l h (i ∙ ap (λ (z : Said). min (z.len - z.pos) (length room)) e) (j ∙ ap (λ (z : Said). laid room 0 (take (z.pos + n - z.pos) (drop z.pos p))) e)
+next_so s p room {a} {n} {t} {y} l h e i j k =
+    next_told s p room l h (i ∙ ap (λ (z : Said). min (z.len - z.pos) (length room)) e) (j ∙ ap (λ (z : Said). laid room 0 (take (z.pos + n - z.pos) (drop z.pos p))) e)
     (k ∙ ap (λ (z : Said). kept s (with_said (record { len = z.len; pos = z.pos + n }) (unpack_of s))) e)
 
 pub read_told : (g : Given) (s q p c b x room : List ℕ) {r : Took} → 652 ≤ length s → fits g (world (unpack_of s) q p c b x) ≡ true → r ≡ next_by s p room

@@ -19,14 +19,14 @@ none false = refl
 
 module _ (g : Given) (s q p c b x : List ℕ) (h : fits g (world (unpack_of s) q p c b x) ≡ false) where
   -- a write of a state whose record, rooms or lists are out of bounds answers 9, long enough or not. Any other of a state that is
-  -- long enough answers 0 or 1 (`write-told`, crates/engine_laws/specs/Bounds.antt)
-  pub write-refused : (d : List ℕ) → writes_in g s q p c b x d ≡ wrote 9 s q p c b x
+  -- long enough answers 0 or 1 (`write_told`, crates/engine_laws/specs/Bounds.antt)
+  pub write_refused : (d : List ℕ) → writes_in g s q p c b x d ≡ wrote 9 s q p c b x
   unfolding writes_in writes
-  write-refused d = rw h (same (holds s) (wrote 9 s q p c b x))
+  write_refused d = rw h (same (holds s) (wrote 9 s q p c b x))
 
-  pub read-refused : (room : List ℕ) → reads_in g s q p c b x room ≡ took (2 ^ 32 - 1) s room
+  pub read_refused : (room : List ℕ) → reads_in g s q p c b x room ≡ took (2 ^ 32 - 1) s room
   unfolding reads_in reads
-  read-refused room = rw h (same (holds s) (took (2 ^ 32 - 1) s room))
+  read_refused room = rw h (same (holds s) (took (2 ^ 32 - 1) s room))
 
 module _ (g : Given) (q p c b x : List ℕ) where
   abbrev zeros : List ℕ
@@ -35,16 +35,16 @@ module _ (g : Given) (q p c b x : List ℕ) where
   abbrev zeroed : World
   zeroed = world (unpack_of zeros) q p c b x
 
-  zeros-good : good g.lent (dev_of zeroed) ≡ false
+  zeros_good : good g.lent (dev_of zeroed) ≡ false
   unfolding good in_bounds geometry_ok page_ok one_of unpack_of store_at shape_at word_at le
-  zeros-good = refl
+  zeros_good = refl
 
-  zeros-fits : fits g zeroed ≡ false
+  zeros_fits : fits g zeroed ≡ false
   unfolding fits
-  zeros-fits = rw (zeros-good, none (engine_ok (unpack_of zeros)), none (rooms_ok (length q) (length p)))
+  zeros_fits = rw (zeros_good, none (engine_ok (unpack_of zeros)), none (rooms_ok (length q) (length p)))
 
-  pub zeros-write : (d : List ℕ) → writes_in g zeros q p c b x d ≡ wrote 9 zeros q p c b x
-  zeros-write d = write-refused g zeros q p c b x zeros-fits d
+  pub zeros_write : (d : List ℕ) → writes_in g zeros q p c b x d ≡ wrote 9 zeros q p c b x
+  zeros_write d = write_refused g zeros q p c b x zeros_fits d
 
-  pub zeros-read : (room : List ℕ) → reads_in g zeros q p c b x room ≡ took (2 ^ 32 - 1) zeros room
-  zeros-read room = read-refused g zeros q p c b x zeros-fits room
+  pub zeros_read : (room : List ℕ) → reads_in g zeros q p c b x room ≡ took (2 ^ 32 - 1) zeros room
+  zeros_read room = read_refused g zeros q p c b x zeros_fits room

@@ -1,5 +1,5 @@
 -- A piece of a stream, counted in the state. The record that was unpacked, packed again with the piece counted, is seven numbers and two
--- marks laid over the bytes (`pack-counted`): all between them stands, since the piece leaves the store's shape as it was.
+-- marks laid over the bytes (`pack_counted`): all between them stands, since the piece leaves the store's shape as it was.
 use Rattle.std.specs.Prelude.{◌≡◌, Bool, cond, length, set, get_or, take, drop}
 use Rattle.std.proofs.Math.Path.{refl, ap}
 use Rattle.std.proofs.Common.{sym, ap₂, ◌∙◌, add-zero, arith, le-leb, length-append, take-append-drop, drop-drop}
@@ -11,13 +11,13 @@ use Rattle.wire.specs.Bytes.{bytes_of, word_at, laid}
 use Rattle.storage.specs.declared.types.Shape.{Shape}
 use Rattle.storage.specs.declared.types.Store.{Store}
 use Rattle.lamjhotu.specs.State.{mark_over, is_nor, is_block, block_over, four_of, words_over, smalls_of, marks_over, pack_over, set_of, meta_at, shape_at, update_at, unpack_of, counted}
-use Rattle.lamjhotu.specs.StateLaws.{Bytes, kind-same, piece, on, fours, one, marked, over}
+use Rattle.lamjhotu.specs.StateLaws.{Bytes, kind_same, piece, on, fours, one, marked, over}
 
 -- ---- bytes laid over others
 
-pub laid-fit : (s : List ℕ) (at : ℕ) (xs : List ℕ) → at + length xs ≤ length s → laid s at xs ≡ sets s at xs
+pub laid_fit : (s : List ℕ) (at : ℕ) (xs : List ℕ) → at + length xs ≤ length s → laid s at xs ≡ sets s at xs
 unfolding laid
-laid-fit s at xs h = ap (λ (t : Bool). cond t (sets s at xs) s) (le-leb (at + length xs) (length s) h)
+laid_fit s at xs h = ap (λ (t : Bool). cond t (sets s at xs) s) (le-leb (at + length xs) (length s) h)
 
 sets_then : (xs ys s : List ℕ) (i : ℕ) → sets (sets s i xs) (i + length xs) ys ≡ sets s i (xs ++ ys)
 sets_then [] ys s i = ap (λ (k : ℕ). sets s k ys) (add-zero i)
@@ -47,12 +47,12 @@ module _ (s : List ℕ) (a : ℕ) (xs zs : List ℕ) (e : zs ≡ take (length zs
   pub skip : (ys : List ℕ) → a + (length xs + (length zs + length ys)) ≤ length s → laid s a (xs ++ (zs ++ ys)) ≡ laid (laid s a xs) (a + length xs + length zs) ys
   skip ys h =
       let j : ℕ = end + length zs in
-      laid-fit s a (xs ++ (zs ++ ys)) (omega (arith, length-append xs (zs ++ ys), length-append zs ys))
+      laid_fit s a (xs ++ (zs ++ ys)) (omega (arith, length-append xs (zs ++ ys), length-append zs ys))
       ∙ ap (sets s a) (sym (append_assoc xs zs ys))
       ∙ sym (sets_then (xs ++ zs) ys s a)
       ∙ ap₂ (λ (l : List ℕ) (i : ℕ). sets l i ys) (stood (omega arith)) ends
-      ∙ sym (laid-fit (sets s a xs) j ys (omega (arith, length-sets s a xs)))
-      ∙ ap (λ (l : List ℕ). laid l j ys) (sym (laid-fit s a xs (omega arith)))
+      ∙ sym (laid_fit (sets s a xs) j ys (omega (arith, length-sets s a xs)))
+      ∙ ap (λ (l : List ℕ). laid l j ys) (sym (laid_fit s a xs (omega arith)))
 
 -- ---- the record with a piece counted
 
@@ -72,9 +72,9 @@ module _ (s : List ℕ) (b : Bytes s) (h : 652 ≤ length s) (w l c n : ℕ) (t 
   abbrev sizes : Shape → List ℕ
   sizes p = four_of p.capacity p.page p.pages p.blocks
 
-  sizes-same : sizes t.shape ≡ take 32 (drop 56 s)
+  sizes_same : sizes t.shape ≡ take 32 (drop 56 s)
   unfolding shape_at
-  sizes-same = ap sizes e ∙ fours s b h 56 (omega arith)
+  sizes_same = ap sizes e ∙ fours s b h 56 (omega arith)
 
   -- 88 to 120: what the store and the burning have come to
   abbrev moves : List ℕ
@@ -104,9 +104,9 @@ module _ (s : List ℕ) (b : Bytes s) (h : 652 ≤ length s) (w l c n : ℕ) (t 
   abbrev kind : Shape → List ℕ
   kind p = mark_over (get_or s 138 0) (is_nor p.kind) ∷ []
 
-  kind-stands : kind t.shape ≡ take 1 (drop 138 s)
+  kind_stands : kind t.shape ≡ take 1 (drop 138 s)
   unfolding shape_at
-  kind-stands = ap kind e ∙ marked s b h 138 (omega arith) (kind-same (set_of (get_or s 138 0)))
+  kind_stands = ap kind e ∙ marked s b h 138 (omega arith) (kind_same (set_of (get_or s 138 0)))
 
   -- 137 and 139: the store's marks
   abbrev held : List ℕ
@@ -115,15 +115,15 @@ module _ (s : List ℕ) (b : Bytes s) (h : 652 ≤ length s) (w l c n : ℕ) (t 
   abbrev erased : List ℕ
   erased = mark_over (get_or s 139 0) (is_block t.erased) ∷ []
 
-  pub pack-counted : laid s 0 (pack_over s (counted w l c n t (unpack_of s))) ≡ laid (laid (laid (laid s 40 sums) 88 moves) 137 held) 139 erased
+  pub pack_counted : laid s 0 (pack_over s (counted w l c n t (unpack_of s))) ≡ laid (laid (laid (laid s 40 sums) 88 moves) 137 held) 139 erased
   unfolding pack_over words_over smalls_of marks_over four_of bytes_of unpack_of update_at meta_at
-  pack-counted =
+  pack_counted =
       let z : List ℕ = sizes t.shape in
       let f : List ℕ = fixed t.shape in
       let k : List ℕ = kind t.shape in
       let new : List ℕ = sums ++ (z ++ (moves ++ (f ++ (held ++ (k ++ erased))))) in
       ap (λ (x : List ℕ). laid s 0 (x ++ (new ++ meta_at s))) front_same
       ∙ over s b h 40 512 new h
-      ∙ skip s 40 (sums ++ (z ++ (moves ++ (f ++ held)))) k kind-stands erased (omega arith)
+      ∙ skip s 40 (sums ++ (z ++ (moves ++ (f ++ held)))) k kind_stands erased (omega arith)
       ∙ ap (λ (x : List ℕ). laid x 139 erased)
-      (skip s 40 (sums ++ (z ++ moves)) f fixed_same held (omega arith) ∙ ap (λ (x : List ℕ). laid x 137 held) (skip s 40 sums z sizes-same moves (omega arith)))
+      (skip s 40 (sums ++ (z ++ moves)) f fixed_same held (omega arith) ∙ ap (λ (x : List ℕ). laid x 137 held) (skip s 40 sums z sizes_same moves (omega arith)))

@@ -1,5 +1,5 @@
 -- The call counter of a NAND store only grows by the chip calls made: each call of the store, whatever its chip does, is some number of
--- chip calls, and by `made-count` the counter has grown by as many, up to its largest number.
+-- chip calls, and by `made_count` the counter has grown by as many, up to its largest number.
 use Rattle.std.proofs.Math.Path.{refl}
 use Rattle.std.specs.Prelude.{List, ℕ, suc, ◌<◌, set}
 use Rattle.storage.specs.declared.types.Erased.{Erased}
@@ -8,9 +8,9 @@ use Rattle.storage.specs.Fold.{base}
 use Rattle.storage.specs.Nor.{freed}
 use Rattle.storage.specs.Nand.{remember, flushes, flushed, begins, written, erased, read_out}
 use Rattle.storage.proofs.Programs.{Call}
-use Rattle.storage.proofs.NandKeeps.{flushes-keeps}
+use Rattle.storage.proofs.NandKeeps.{flushes_keeps}
 use Rattle.nand_laws.specs.Made.{Made, none, call, aside}
-use Rattle.nand_laws.specs.Keeps.{flushed-keeps, written_keeps, erased-keeps, read_out-keeps}
+use Rattle.nand_laws.specs.Keeps.{flushed_keeps, written_keeps, erased_keeps, read_out_keeps}
 
 module _ (d : Dev) where
   -- some number of chip calls lead from d to e
@@ -38,21 +38,21 @@ module _ (d : Dev) where
 
 module _ (l : Lent) (d : Dev) where
   -- the flush inside every call is a number of chip calls
-  pub flushes-made : (n : ℕ) × Made d n (flushes l d).dev
-  flushes-made = flushes-keeps (From d) (one_more d) (noted d) l (let_go d) d (nothing d)
+  pub flushes_made : (n : ℕ) × Made d n (flushes l d).dev
+  flushes_made = flushes_keeps (From d) (one_more d) (noted d) l (let_go d) d (nothing d)
 
   -- the flush that a caller asks for is
-  pub flushed-made : (n : ℕ) × Made d n (flushed l d).dev
-  flushed-made = flushed-keeps (From d) (one_more d) (noted d) l (let_go d) d (nothing d)
+  pub flushed_made : (n : ℕ) × Made d n (flushed l d).dev
+  flushed_made = flushed_keeps (From d) (one_more d) (noted d) l (let_go d) d (nothing d)
 
   -- a write is
-  pub written-made : (off : ℕ) (xs : List ℕ) → (n : ℕ) × Made d n (written l off xs d).dev
-  written-made = written_keeps (From d) (one_more d) (noted d) l (let_go d) d (nothing d) (begun d) (with_byte d)
+  pub written_made : (off : ℕ) (xs : List ℕ) → (n : ℕ) × Made d n (written l off xs d).dev
+  written_made = written_keeps (From d) (one_more d) (noted d) l (let_go d) d (nothing d) (begun d) (with_byte d)
 
   -- an erase is
-  pub erased-made : (start size : ℕ) → (n : ℕ) × Made d n (erased l start size d).dev
-  erased-made = erased-keeps (From d) (one_more d) (noted d) l (let_go d) d (nothing d)
+  pub erased_made : (start size : ℕ) → (n : ℕ) × Made d n (erased l start size d).dev
+  erased_made = erased_keeps (From d) (one_more d) (noted d) l (let_go d) d (nothing d)
 
   -- a read is
-  pub read_out-made : (off : ℕ) (room : List ℕ) → (n : ℕ) × Made d n (read_out l off room d).told.dev
-  read_out-made = read_out-keeps (From d) (one_more d) (noted d) l (let_go d) d (nothing d)
+  pub read_out_made : (off : ℕ) (room : List ℕ) → (n : ℕ) × Made d n (read_out l off room d).told.dev
+  read_out_made = read_out_keeps (From d) (one_more d) (noted d) l (let_go d) d (nothing d)

@@ -14,8 +14,8 @@ use Rattle.storage.specs.Chip.{fetched}
 use Rattle.storage.specs.Fold.{run, base, writes}
 use Rattle.storage.specs.Nor.{freed, pages_of, sat_add}
 use Rattle.storage.specs.Nand.{block_size, remember, erase_checked, flushes, flushed, begins, loads, stays, written, erase_n, erase_range, erased, read_out}
-use Rattle.storage.proofs.Programs.{Call, fetched-number}
-use Rattle.storage.proofs.NandKeeps.{checked-keeps, flushes-keeps, writes-keeps}
+use Rattle.storage.proofs.Programs.{Call, fetched_number}
+use Rattle.storage.proofs.NandKeeps.{checked_keeps, flushes_keeps, writes_keeps}
 
 -- either of two outcomes, and one after the other
 module _ (P : Dev → Type 0) where
@@ -28,12 +28,12 @@ module _ (P : Dev → Type 0) where
 
 module _ (P : Dev → Type 0) (calls : (d e : Dev) → Call d e → P d → P e) (notes : (x : Erased) (d : Dev) → P d → P (remember x d)) (l : Lent)
     (frees : (d : Dev) → P d → P (dev (freed d.store) d.chip d.buf)) (d : Dev) (start : P d) where
-  after-flush : P (flushes l d).dev
-  after-flush = flushes-keeps P calls notes l frees d start
+  after_flush_lem : P (flushes l d).dev
+  after_flush_lem = flushes_keeps P calls notes l frees d start
 
-  pub flushed-keeps : P (flushed l d).dev
+  pub flushed_keeps : P (flushed l d).dev
   unfolding flushed
-  flushed-keeps = next P (flushes l d) (λ f. out true (remember None f)) after-flush (notes None)
+  flushed_keeps = next P (flushes l d) (λ f. out true (remember None f)) after_flush_lem (notes None)
 
   -- ---- write
 
@@ -48,42 +48,42 @@ module _ (P : Dev → Type 0) (calls : (d e : Dev) → Call d e → P d → P e)
       go : (b : Bool) → leb (off + length xs) d.store.shape.capacity ≡ b
           → P (cond b (told 0 ((writes p (loads l p) stays xs (run true off d)).at - off) (writes p (loads l p) stays xs (run true off d)).dev) (told 0 0 d)).dev
       go true h =
-          writes-keeps P calls notes l frees p d.store.shape.capacity begun sets xs (run true off d) (leb-true (off + length xs) d.store.shape.capacity h) start
+          writes_keeps P calls notes l frees p d.store.shape.capacity begun sets xs (run true off d) (leb-true (off + length xs) d.store.shape.capacity h) start
       go false h = start
 
   -- ---- erase
 
-  erase_n-keeps : (n k : ℕ) (e : Dev) → P e → P (erase_n l n k e).dev
+  erase_n_keeps : (n k : ℕ) (e : Dev) → P e → P (erase_n l n k e).dev
   unfolding erase_n
-  erase_n-keeps zero k e h = h
-  erase_n-keeps (suc n) k e h = next P (erase_checked l k e) (erase_n l n (k + 1)) (checked-keeps P calls notes l k e h) (erase_n-keeps n (k + 1))
+  erase_n_keeps zero k e h = h
+  erase_n_keeps (suc n) k e h = next P (erase_checked l k e) (erase_n l n (k + 1)) (checked_keeps P calls notes l k e h) (erase_n_keeps n (k + 1))
 
-  range-keeps : (from size : ℕ) (e : Dev) → P e → P (erase_range l from size e).dev
+  range_keeps : (from size : ℕ) (e : Dev) → P e → P (erase_range l from size e).dev
   unfolding erase_range
-  range-keeps from size e h =
+  range_keeps from size e h =
       let b = block_size e.store in
       let n = pages_of b (sat_add from size - base b from) in
-      either P (leb (sat_add from size) e.store.shape.capacity) (erase_n l n (from / b) e) (out false e) (erase_n-keeps n (from / b) e h) h
+      either P (leb (sat_add from size) e.store.shape.capacity) (erase_n l n (from / b) e) (out false e) (erase_n_keeps n (from / b) e h) h
 
-  pub erased-keeps : (from size : ℕ) → P (erased l from size d).dev
+  pub erased_keeps : (from size : ℕ) → P (erased l from size d).dev
   unfolding erased
-  erased-keeps from size =
-      next P (flushes l d) (λ f. erase_range l from size (remember None f)) after-flush (λ f k. range-keeps from size (remember None f) (notes None f k))
+  erased_keeps from size =
+      next P (flushes l d) (λ f. erase_range l from size (remember None f)) after_flush_lem (λ f k. range_keeps from size (remember None f) (notes None f k))
 
   -- ---- read
 
-  seen-keeps : (b c : Bool) (e f : Dev) (n : ℕ) (r s : List ℕ) → P e → P f
+  seen_keeps : (b c : Bool) (e f : Dev) (n : ℕ) (r s : List ℕ) → P e → P f
       → P (cond b (cond c (seen (told 0 0 e) r) (seen (told 0 n f) s)) (seen (told 0 0 e) r)).told.dev
-  seen-keeps true true e f n r s h k = h
-  seen-keeps true false e f n r s h k = k
-  seen-keeps false c e f n r s h k = h
+  seen_keeps true true e f n r s h k = h
+  seen_keeps true false e f n r s h k = k
+  seen_keeps false c e f n r s h k = h
 
-  pub read_out-keeps : (off : ℕ) (room : List ℕ) → P (read_out l off room d).told.dev
+  pub read_out_keeps : (off : ℕ) (room : List ℕ) → P (read_out l off room d).told.dev
   unfolding read_out
-  read_out-keeps off room =
+  read_out_keeps off room =
       let f = flushes l d in
       let n = min (length room) (f.dev.store.shape.capacity - off) in
       let g = fetched l.faults off f.dev.store f.dev.chip (take n room) in
       let e = dev g.store f.dev.chip f.dev.buf in
-      seen-keeps f.ok (eqb n 0) f.dev e (cond g.ok n 0) room (g.room ++ drop n room) after-flush
-      (calls f.dev e (record { number = fetched-number l.faults off f.dev.store f.dev.chip (take n room); buf = refl; size = refl }) after-flush)
+      seen_keeps f.ok (eqb n 0) f.dev e (cond g.ok n 0) room (g.room ++ drop n room) after_flush_lem
+      (calls f.dev e (record { number = fetched_number l.faults off f.dev.store f.dev.chip (take n room); buf = refl; size = refl }) after_flush_lem)

@@ -12,12 +12,12 @@ use Rattle.storage.specs.Chip.{next_call}
 use Rattle.storage.specs.Fold.{base}
 use Rattle.storage.specs.Nor.{freed}
 use Rattle.storage.specs.Nand.{Sound, blanks, remember, flushes, flushed, begins, written, erased, read_out}
-use Rattle.storage.proofs.Fold.{false-true}
+use Rattle.storage.proofs.Fold.{false_true}
 use Rattle.storage.proofs.Programs.{Call}
-use Rattle.storage.proofs.NandCalls.{length-blanks}
-use Rattle.storage.proofs.NandKeeps.{flushes-keeps, sound-as, sound-with}
+use Rattle.storage.proofs.NandCalls.{length_blanks}
+use Rattle.storage.proofs.NandKeeps.{flushes_keeps, sound_as, sound_with}
 use Rattle.storage.proofs.NandMoves.{start_is}
-use Rattle.nand_laws.specs.Keeps.{flushed-keeps, written_keeps, erased-keeps, read_out-keeps}
+use Rattle.nand_laws.specs.Keeps.{flushed_keeps, written_keeps, erased_keeps, read_out_keeps}
 
 -- a held page starts on its boundary, below the capacity
 abbrev pub OnPage : Store → Type 0
@@ -32,8 +32,8 @@ pub record Kept (d e : Dev) : Type 0 where
   pub on : OnPage d.store → OnPage e.store
 
 -- what is kept is enough for the next call
-pub kept-sound : {m : List ℕ} {d e : Dev} → Kept d e → Sound m d.store.shape d.buf → Sound m e.store.shape e.buf
-kept-sound k s = sound-with k.buf (sound-as k.shape s)
+pub kept_sound : {m : List ℕ} {d e : Dev} → Kept d e → Sound m d.store.shape d.buf → Sound m e.store.shape e.buf
+kept_sound k s = sound_with k.buf (sound_as k.shape s)
 
 pub kept_refl : (d : Dev) → Kept d d
 kept_refl d = record { shape = refl; chip = refl; buf = refl; calls = λ h. (omega arith, h); on = λ h. h }
@@ -63,22 +63,22 @@ call_kept d e c =
     }
 
 -- another erased block
-note-kept : (x : Erased) (d : Dev) → Kept d (remember x d)
-note-kept x d = record { shape = refl; chip = refl; buf = refl; calls = λ h. (omega arith, h); on = λ h. h }
+note_kept : (x : Erased) (d : Dev) → Kept d (remember x d)
+note_kept x d = record { shape = refl; chip = refl; buf = refl; calls = λ h. (omega arith, h); on = λ h. h }
 
 -- a page let go
-free-kept : (d : Dev) → Kept d (dev (freed d.store) d.chip d.buf)
-free-kept d = record { shape = refl; chip = refl; buf = refl; calls = λ h. (omega arith, h); on = λ h t. false-true t }
+free_kept : (d : Dev) → Kept d (dev (freed d.store) d.chip d.buf)
+free_kept d = record { shape = refl; chip = refl; buf = refl; calls = λ h. (omega arith, h); on = λ h t. false_true t }
 
 -- a page begun, where the buffer has room for it
-begin-kept : (a : ℕ) (d : Dev) → d.store.shape.page ≤ length d.buf → a % d.store.shape.page ≡ 0 → a < d.store.shape.capacity → Kept d (begins a d)
+begin_kept : (a : ℕ) (d : Dev) → d.store.shape.page ≤ length d.buf → a % d.store.shape.page ≡ 0 → a < d.store.shape.capacity → Kept d (begins a d)
 unfolding begins
-begin-kept a d r z l =
+begin_kept a d r z l =
     let p = d.store.shape.page in
     record {
       shape = refl;
       chip = refl;
-      buf = length_front d.buf (blanks p) p (length-blanks p ∙ sym (length-take-le p d.buf r));
+      buf = length_front d.buf (blanks p) p (length_blanks p ∙ sym (length-take-le p d.buf r));
       calls = λ h. (omega arith, h);
       on = λ h t. (z, l);
     }
@@ -90,10 +90,10 @@ module _ (d : Dev) where
   onward e f c k = kept_trans k (call_kept e f c)
 
   pub noted : (x : Erased) (e : Dev) → Kept d e → Kept d (remember x e)
-  noted x e k = kept_trans k (note-kept x e)
+  noted x e k = kept_trans k (note_kept x e)
 
   pub let_go : (e : Dev) → Kept d e → Kept d (dev (freed e.store) e.chip e.buf)
-  let_go e k = kept_trans k (free-kept e)
+  let_go e k = kept_trans k (free_kept e)
 
   pub with_byte : (i x : ℕ) (e : Dev) → Kept d e → Kept d (dev e.store e.chip (set e.buf i x))
   with_byte i x e k = record { shape = k.shape; chip = k.chip; buf = length-set e.buf i x ∙ k.buf; calls = k.calls; on = k.on }
@@ -105,21 +105,21 @@ module _ (d : Dev) where
       let q : e.store.shape.page ≡ p = ap (λ (s : Shape). s.page) k.shape in
       let c : e.store.shape.capacity ≡ d.store.shape.capacity = ap (λ (s : Shape). s.capacity) k.shape in
       let z : base p a % p ≡ 0 = ap (λ (n : ℕ). n % p) (sym (start_is p a)) ∙ mul-mod_left (a / p) p in
-      kept_trans k (begin-kept (base p a) e (omega (arith, k.buf)) (rw q z) (omega arith))
+      kept_trans k (begin_kept (base p a) e (omega (arith, k.buf)) (rw q z) (omega arith))
 
 module _ (l : Lent) (d : Dev) where
-  pub flushes-kept : Kept d (flushes l d).dev
-  flushes-kept = flushes-keeps (Kept d) (onward d) (noted d) l (let_go d) d (kept_refl d)
+  pub flushes_kept : Kept d (flushes l d).dev
+  flushes_kept = flushes_keeps (Kept d) (onward d) (noted d) l (let_go d) d (kept_refl d)
 
-  pub flushed-kept : Kept d (flushed l d).dev
-  flushed-kept = flushed-keeps (Kept d) (onward d) (noted d) l (let_go d) d (kept_refl d)
+  pub flushed_kept : Kept d (flushed l d).dev
+  flushed_kept = flushed_keeps (Kept d) (onward d) (noted d) l (let_go d) d (kept_refl d)
 
   -- a write, where the buffer has room for a page
-  pub written-kept : d.store.shape.page ≤ length d.buf → (off : ℕ) (xs : List ℕ) → Kept d (written l off xs d).dev
-  written-kept room = written_keeps (Kept d) (onward d) (noted d) l (let_go d) d (kept_refl d) (begun d room) (with_byte d)
+  pub written_kept : d.store.shape.page ≤ length d.buf → (off : ℕ) (xs : List ℕ) → Kept d (written l off xs d).dev
+  written_kept room = written_keeps (Kept d) (onward d) (noted d) l (let_go d) d (kept_refl d) (begun d room) (with_byte d)
 
-  pub erased-kept : (start size : ℕ) → Kept d (erased l start size d).dev
-  erased-kept = erased-keeps (Kept d) (onward d) (noted d) l (let_go d) d (kept_refl d)
+  pub erased_kept : (start size : ℕ) → Kept d (erased l start size d).dev
+  erased_kept = erased_keeps (Kept d) (onward d) (noted d) l (let_go d) d (kept_refl d)
 
-  pub read_out-kept : (off : ℕ) (room : List ℕ) → Kept d (read_out l off room d).told.dev
-  read_out-kept = read_out-keeps (Kept d) (onward d) (noted d) l (let_go d) d (kept_refl d)
+  pub read_out_kept : (off : ℕ) (room : List ℕ) → Kept d (read_out l off room d).told.dev
+  read_out_kept = read_out_keeps (Kept d) (onward d) (noted d) l (let_go d) d (kept_refl d)

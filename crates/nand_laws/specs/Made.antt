@@ -23,13 +23,13 @@ made_then m (call n c) = simp unary_clauses (call (made_then m n) c)
 made_then m (aside n p q) = aside (made_then m n) p q
 
 -- the counter has grown by as many, up to its largest number
-pub made-count : {d : Dev} {n : ℕ} {e : Dev} → d.store.calls ≤ 18446744073709551615 → Made d n e → e.store.calls ≡ min (d.store.calls + n) 18446744073709551615
-made-count h none = omega arith
-made-count {d} h (call {n} {e} {f} m c) =
-    let i = made-count h m in
+pub made_count : {d : Dev} {n : ℕ} {e : Dev} → d.store.calls ≤ 18446744073709551615 → Made d n e → e.store.calls ≡ min (d.store.calls + n) 18446744073709551615
+made_count h none = omega arith
+made_count {d} h (call {n} {e} {f} m c) =
+    let i = made_count h m in
     let k : f.store.calls ≡ next_call e.store.calls = ap (λ (s : Store). s.calls) c.number in
     omega arith
-made-count h (aside m p q) = q ∙ made-count h m
+made_count h (aside m p q) = q ∙ made_count h m
 
 -- ---- one of them was told to fail
 
@@ -41,5 +41,5 @@ pub record Failed (F : List ℕ) (d e : Dev) : Type 0 where
   pub fails : failing F number ≡ true
 
 -- and so between any states before and behind them
-pub failed-wide : {F : List ℕ} {c d e f : Dev} → c.store.calls ≤ d.store.calls → e.store.calls ≤ f.store.calls → Failed F d e → Failed F c f
-failed-wide h k x = record { number = x.number; after = omega (arith, x.after); before = omega (arith, x.before); fails = x.fails }
+pub failed_wide : {F : List ℕ} {c d e f : Dev} → c.store.calls ≤ d.store.calls → e.store.calls ≤ f.store.calls → Failed F d e → Failed F c f
+failed_wide h k x = record { number = x.number; after = omega (arith, x.after); before = omega (arith, x.before); fails = x.fails }

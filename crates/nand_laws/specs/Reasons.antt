@@ -27,18 +27,18 @@ use Rattle.storage.specs.Fold.{Run, run, base, seals, step, writes}
 use Rattle.storage.specs.Nor.{freed, holding, holds, pages_of, sat_add}
 use Rattle.storage.specs.Open.{nand_store}
 use Rattle.storage.specs.Nand.{block_size, blanks, kept, erase_block, program_page, asks_good, noting, remember, is_erased, erase_checked, ready, burns, attempt, or_else, flushes, begins, flushed, loads, stays, written, erase_n, erase_range, erased, read_out}
-use Rattle.storage.proofs.Chips.{able-fits}
-use Rattle.storage.proofs.Fold.{false-true, stopped, reached}
+use Rattle.storage.proofs.Chips.{able_fits}
+use Rattle.storage.proofs.Fold.{false_true, stopped, reached}
 use Rattle.storage.proofs.Over.{length_over}
-use Rattle.storage.proofs.Programs.{Call, programs-call, fetched-number, fetched-well}
-use Rattle.storage.proofs.NandCalls.{length-blanks, length-page}
-use Rattle.storage.proofs.NandKeeps.{checked-keeps, flushes-keeps}
-use Rattle.storage.proofs.NandMoves.{start_is, written-told, read-unflushed, read_none, read_told}
-use Rattle.nand_laws.specs.Made.{Failed, failed-wide}
-use Rattle.nand_laws.specs.Keeps.{either, next, flushed-keeps, erased-keeps, read_out-keeps}
-use Rattle.nand_laws.specs.Kept.{Kept, flushes-kept, kept_refl, onward, noted, let_go, with_byte, begun}
-use Rattle.nand_laws.specs.Within.{Bytes, page_of, block_of, Within, Inside, bytes-more, within-as, set-within, begin-within, within-free}
-use Rattle.nand_laws.specs.Fresh.{Good, good-blank, block_inside, asks-good, erase-good, page-good, block_on, page-fits, blanked-page}
+use Rattle.storage.proofs.Programs.{Call, programs_call, fetched_number, fetched_well}
+use Rattle.storage.proofs.NandCalls.{length_blanks, length_page}
+use Rattle.storage.proofs.NandKeeps.{checked_keeps, flushes_keeps}
+use Rattle.storage.proofs.NandMoves.{start_is, written_told, read_unflushed, read_none, read_told}
+use Rattle.nand_laws.specs.Made.{Failed, failed_wide}
+use Rattle.nand_laws.specs.Keeps.{either, next, flushed_keeps, erased_keeps, read_out_keeps}
+use Rattle.nand_laws.specs.Kept.{Kept, flushes_kept, kept_refl, onward, noted, let_go, with_byte, begun}
+use Rattle.nand_laws.specs.Within.{Bytes, page_of, block_of, Within, Inside, bytes_more, within_as, set_within, begin_within, within_free}
+use Rattle.nand_laws.specs.Fresh.{Good, good_blank, block_inside, asks_good_lem, erase_good, page_good, block_on, page_fits, blanked_page}
 
 -- ---- what is told of a failure
 
@@ -61,15 +61,15 @@ pub data Reason (l : Lent) (Asks : ℕ → Type 0) (d e : Dev) : Type 0 where
   bad : (k : ℕ) → Asks k → k < length l.marks → (get_or l.marks k 0 ≡ 255 → ⊥) → Reason l Asks d e
 
 -- a chip on which nothing is wrong gives none
-pub no-reason : {l : Lent} {Asks : ℕ → Type 0} {d e : Dev} → Good l → Reason l Asks d e → ⊥
-no-reason g (error x) = false-true (sym (g.quiet x.number) ∙ x.fails)
-no-reason g (bad k a h n) = n (g.good k h)
+pub no_reason : {l : Lent} {Asks : ℕ → Type 0} {d e : Dev} → Good l → Reason l Asks d e → ⊥
+no_reason g (error x) = false_true (sym (g.quiet x.number) ∙ x.fails)
+no_reason g (bad k a h n) = n (g.good k h)
 
 -- a reason of a call is one of any longer run of calls that may ask about these blocks
-pub reason-wide : {l : Lent} {A B : ℕ → Type 0} {c d e f : Dev} → c.store.calls ≤ d.store.calls → e.store.calls ≤ f.store.calls → ((k : ℕ) → A k → B k)
+pub reason_wide : {l : Lent} {A B : ℕ → Type 0} {c d e f : Dev} → c.store.calls ≤ d.store.calls → e.store.calls ≤ f.store.calls → ((k : ℕ) → A k → B k)
     → Reason l A d e → Reason l B c f
-reason-wide h i g (error x) = error (failed-wide h i x)
-reason-wide h i g (bad k a m n) = bad k (g k a) m n
+reason_wide h i g (error x) = error (failed_wide h i x)
+reason_wide h i g (bad k a m n) = bad k (g k a) m n
 
 -- what holds but for a reason holds where there is none
 pub surely : {A B : Type 0} → (B → ⊥) → A ⊎ B → A
@@ -79,8 +79,8 @@ surely n (inr b) = absurd (n b)
 -- ---- the blocks of a range
 
 -- the blocks that m bytes touch are no more than those that have room for them
-pages-most : (b m j : ℕ) → 0 < b → m ≤ j * b → pages_of b m ≤ j
-pages-most b m j h k = go (ltb m (j * b)) refl
+pages_most : (b m j : ℕ) → 0 < b → m ≤ j * b → pages_of b m ≤ j
+pages_most b m j h k = go (ltb m (j * b)) refl
   where
     go : (t : Bool) → ltb m (j * b) ≡ t → pages_of b m ≤ j
     go true e =
@@ -102,12 +102,12 @@ range_inside b start end n h s e =
     let j : k ≤ n = le_of_mul-le-mul_right {m = k} {n = n} {k = b} i h in
     let q : n ≡ k + (n - k) = omega arith in
     let r : n * b ≡ k * b + (n - k) * b = ap (λ (x : ℕ). x * b) q ∙ add-mul k (n - k) b in
-    let m = pages-most b (end - base b start) (n - k) h (omega arith) in
+    let m = pages_most b (end - base b start) (n - k) h (omega arith) in
     omega arith
 
 -- and each starts below any number that neither the range's start nor its end passes
-range-touches : (b start end top k : ℕ) → 0 < b → start ≤ top → end ≤ top → k < start / b + pages_of b (end - base b start) → k * b < top
-range-touches b start end top k h s e j = go (ltb (k * b) top) refl
+range_touches : (b start end top k : ℕ) → 0 < b → start ≤ top → end ≤ top → k < start / b + pages_of b (end - base b start) → k * b < top
+range_touches b start end top k h s e j = go (ltb (k * b) top) refl
   where
     go : (t : Bool) → ltb (k * b) top ≡ t → k * b < top
     go true u = ltb-true (k * b) top u
@@ -117,24 +117,24 @@ range-touches b start end top k h s e j = go (ltb (k * b) top) refl
         absurd (omega arith)
 
 -- the block of a page is the block of an address in it
-page-block : (a p g : ℕ) → 0 < p → base p a / (p * g) ≡ a / (p * g)
-page-block a p g h =
+page_block : (a p g : ℕ) → 0 < p → base p a / (p * g) ≡ a / (p * g)
+page_block a p g h =
     let e : base p a / p ≡ a / p = ap (λ (n : ℕ). n / p) (sym (start_is p a)) ∙ mul-div_cancel (a / p) h in
     sym (div-div-eq-div-mul (base p a) p g) ∙ ap (λ (n : ℕ). n / g) e ∙ div-div-eq-div-mul a p g
 
 -- ---- the single chip calls
 
-asks-call : (l : Lent) (k : ℕ) (d : Dev) → Call d (asks_good l k d).dev
+asks_call : (l : Lent) (k : ℕ) (d : Dev) → Call d (asks_good l k d).dev
 unfolding asks_good
-asks-call l k d = record { number = refl; buf = refl; size = refl }
+asks_call l k d = record { number = refl; buf = refl; size = refl }
 
 erase_call : (F : List ℕ) (k : ℕ) (d : Dev) → Call d (erase_block F k d).dev
 unfolding erase_block
-erase_call F k d = programs-call F (k * block_size d.store) (blanks (block_size d.store)) d
+erase_call F k d = programs_call F (k * block_size d.store) (blanks (block_size d.store)) d
 
-page-call : (F : List ℕ) (a : ℕ) (xs : List ℕ) (d : Dev) → Call d (program_page F a xs d).dev
+page_call : (F : List ℕ) (a : ℕ) (xs : List ℕ) (d : Dev) → Call d (program_page F a xs d).dev
 unfolding program_page
-page-call F a xs d = go (able F d.store d.chip a (length xs)) refl
+page_call F a xs d = go (able F d.store d.chip a (length xs)) refl
   where
     new : List ℕ
     new = kept (take (length xs) (drop a d.chip)) xs
@@ -142,20 +142,20 @@ page-call F a xs d = go (able F d.store d.chip a (length xs)) refl
     go : (b : Bool) → able F d.store d.chip a (length xs) ≡ b
         → Call d (cond b (out (same new xs) (dev (called d.store) (over a new d.chip) d.buf)) (out false (dev (called d.store) d.chip d.buf))).dev
     go true t =
-        let f : a + length xs ≤ length d.chip = able-fits F d.store d.chip a (length xs) t in
-        record { number = refl; buf = refl; size = length_over a new d.chip (rw (length-page a xs d.chip f) f) }
+        let f : a + length xs ≤ length d.chip = able_fits F d.store d.chip a (length xs) t in
+        record { number = refl; buf = refl; size = length_over a new d.chip (rw (length_page a xs d.chip f) f) }
     go false t = record { number = refl; buf = refl; size = refl }
 
 -- where no block is remembered, none counts as erased
-none-erased : (k : ℕ) → is_erased None k ≡ false
+none_erased : (k : ℕ) → is_erased None k ≡ false
 unfolding is_erased
-none-erased k = refl
+none_erased k = refl
 
 -- a checked erase that succeeded has set its block to 0xFF
-checked-was : (l : Lent) (k : ℕ) (d : Dev) → k < d.store.shape.blocks → (erase_checked l k d).ok ≡ true
+checked_was : (l : Lent) (k : ℕ) (d : Dev) → k < d.store.shape.blocks → (erase_checked l k d).ok ≡ true
     → (erase_checked l k d).dev ≡ dev (called (called d.store)) (over (k * block_size d.store) (blanks (block_size d.store)) d.chip) d.buf
 unfolding erase_checked asks_good erase_block programs
-checked-was l k d h = rw (lt-ltb k d.store.shape.blocks h) (go (asks_good l k d).ok refl)
+checked_was l k d h = rw (lt-ltb k d.store.shape.blocks h) (go (asks_good l k d).ok refl)
   where
     b : ℕ
     b = block_size d.store
@@ -168,12 +168,12 @@ checked-was l k d h = rw (lt-ltb k d.store.shape.blocks h) (go (asks_good l k d)
 
     late : (t : Bool) → (cond t (out true end) (out false (dev (called s) d.chip d.buf))).ok ≡ true → (cond t (out true end) (out false (dev (called s) d.chip d.buf))).dev ≡ end
     late true e = refl
-    late false e = false-true e
+    late false e = false_true e
 
     go : (t : Bool) → (asks_good l k d).ok ≡ t → (cond t (erase_block l.faults k (asks_good l k d).dev) (asks_good l k d)).ok ≡ true
         → (cond t (erase_block l.faults k (asks_good l k d).dev) (asks_good l k d)).dev ≡ end
     go true u e = late (able l.faults s d.chip (k * b) (length (blanks b))) e
-    go false u e = false-true (sym u ∙ e)
+    go false u e = false_true (sym u ∙ e)
 
 -- ---- a call under way
 
@@ -185,87 +185,87 @@ module _ (l : Lent) (Asks : ℕ → Type 0) (d : Dev) where
     kept : Kept d e
     asks : e.store.held ≡ true → Asks (block_of e)
 
-  still-as : (e f : Dev) → f.store.shape ≡ e.store.shape → length f.chip ≡ length e.chip → f.buf ≡ e.buf → f.store.at ≡ e.store.at
+  still_as : (e f : Dev) → f.store.shape ≡ e.store.shape → length f.chip ≡ length e.chip → f.buf ≡ e.buf → f.store.at ≡ e.store.at
       → (f.store.held ≡ true → e.store.held ≡ true) → Kept d f → Still e → Still f
-  still-as e f shape long buf at held k s =
-      record { within = within-as l e f shape long buf at held s.within; kept = k; asks = λ t. rw (shape, at) (s.asks (held t)) }
+  still_as e f shape long buf at held k s =
+      record { within = within_as l e f shape long buf at held s.within; kept = k; asks = λ t. rw (shape, at) (s.asks (held t)) }
 
   calls : (e f : Dev) → Call e f → Still e → Still f
   calls e f c s =
-      still-as e f (ap (λ (x : Store). x.shape) c.number) c.size c.buf (ap (λ (x : Store). x.at) c.number) (λ t. ap (λ (x : Store). x.held) (sym c.number) ∙ t)
+      still_as e f (ap (λ (x : Store). x.shape) c.number) c.size c.buf (ap (λ (x : Store). x.at) c.number) (λ t. ap (λ (x : Store). x.held) (sym c.number) ∙ t)
       (onward d e f c s.kept) s
 
   notes : (x : Erased) (e : Dev) → Still e → Still (remember x e)
-  notes x e s = still-as e (remember x e) refl refl refl refl (λ t. t) (noted d x e s.kept) s
+  notes x e s = still_as e (remember x e) refl refl refl refl (λ t. t) (noted d x e s.kept) s
 
   frees : (e : Dev) → Still e → Still (dev (freed e.store) e.chip e.buf)
-  frees e s = still-as e (dev (freed e.store) e.chip e.buf) refl refl refl refl (λ t. false-true t) (let_go d e s.kept) s
+  frees e s = still_as e (dev (freed e.store) e.chip e.buf) refl refl refl refl (λ t. false_true t) (let_go d e s.kept) s
 
-  flushes-still : (e : Dev) → Still e → Still (flushes l e).dev
-  flushes-still = flushes-keeps Still calls notes l frees
+  flushes_still : (e : Dev) → Still e → Still (flushes l e).dev
+  flushes_still = flushes_keeps Still calls notes l frees
 
-  flushed-still : (e : Dev) → Still e → Still (flushed l e).dev
-  flushed-still = flushed-keeps Still calls notes l frees
+  flushed_still : (e : Dev) → Still e → Still (flushed l e).dev
+  flushed_still = flushed_keeps Still calls notes l frees
 
-  erased-still : (e : Dev) → Still e → (start size : ℕ) → Still (erased l start size e).dev
-  erased-still = erased-keeps Still calls notes l frees
+  erased_still : (e : Dev) → Still e → (start size : ℕ) → Still (erased l start size e).dev
+  erased_still = erased_keeps Still calls notes l frees
 
-  read_out-still : (e : Dev) → Still e → (off : ℕ) (room : List ℕ) → Still (read_out l off room e).told.dev
-  read_out-still = read_out-keeps Still calls notes l frees
+  read_out_still : (e : Dev) → Still e → (off : ℕ) (room : List ℕ) → Still (read_out l off room e).told.dev
+  read_out_still = read_out_keeps Still calls notes l frees
 
   -- with a page held
   abbrev Trying : Dev → Type 0
   Trying e = Still e × (e.store.held ≡ true)
 
-  trying-calls : (e f : Dev) → Call e f → Trying e → Trying f
-  trying-calls e f c s = (calls e f c s.0, ap (λ (x : Store). x.held) c.number ∙ s.1)
+  trying_calls : (e f : Dev) → Call e f → Trying e → Trying f
+  trying_calls e f c s = (calls e f c s.0, ap (λ (x : Store). x.held) c.number ∙ s.1)
 
-  trying-notes : (x : Erased) (e : Dev) → Trying e → Trying (remember x e)
-  trying-notes x e s = (notes x e s.0, s.1)
+  trying_notes : (x : Erased) (e : Dev) → Trying e → Trying (remember x e)
+  trying_notes x e s = (notes x e s.0, s.1)
 
   -- what a try to flush the page leaves: where it failed, no block is remembered
   abbrev Left : Out → Type 0
   Left o = Trying o.dev × (o.ok ≡ false → o.dev.store.erased ≡ None)
 
-  ready-left : (k : ℕ) (e : Dev) → Trying e → Left (ready l k e)
+  ready_left : (k : ℕ) (e : Dev) → Trying e → Left (ready l k e)
   unfolding ready
-  ready-left k e s = go (is_erased e.store.erased k) x.ok
+  ready_left k e s = go (is_erased e.store.erased k) x.ok
     where
       x : Out
       x = erase_checked l k e
 
       i : Trying x.dev
-      i = checked-keeps Trying trying-calls trying-notes l k e s
+      i = checked_keeps Trying trying_calls trying_notes l k e s
 
       go : (b c : Bool) → Left (cond b (out true e) (cond c (out true (remember (Block k) x.dev)) (out false (remember None x.dev))))
-      go true c = (s, λ z. false-true (sym z))
-      go false true = (trying-notes (Block k) x.dev i, λ z. false-true (sym z))
-      go false false = (trying-notes None x.dev i, λ z. refl)
+      go true c = (s, λ z. false_true (sym z))
+      go false true = (trying_notes (Block k) x.dev i, λ z. false_true (sym z))
+      go false false = (trying_notes None x.dev i, λ z. refl)
 
-  burns-left : (e : Dev) → Trying e → Left (burns l e)
+  burns_left : (e : Dev) → Trying e → Left (burns l e)
   unfolding burns
-  burns-left e s = go w.ok refl
+  burns_left e s = go w.ok refl
     where
       w : Out
       w = program_page l.faults e.store.at (page_of e) e
 
       i : Trying w.dev
-      i = trying-calls e w.dev (page-call l.faults e.store.at (page_of e) e) s
+      i = trying_calls e w.dev (page_call l.faults e.store.at (page_of e) e) s
 
       go : (b : Bool) → w.ok ≡ b → Left (cond b w (out false (remember None w.dev)))
-      go true u = (i, λ z. false-true (sym z ∙ u))
-      go false u = (trying-notes None w.dev i, λ z. refl)
+      go true u = (i, λ z. false_true (sym z ∙ u))
+      go false u = (trying_notes None w.dev i, λ z. refl)
 
-  attempt-left : (e : Dev) → Trying e → Left (attempt l e)
+  attempt_left : (e : Dev) → Trying e → Left (attempt l e)
   unfolding attempt
-  attempt-left e s = go r.ok
+  attempt_left e s = go r.ok
     where
       r : Out
       r = ready l (block_of e) e
 
       go : (b : Bool) → Left (cond b (burns l r.dev) r)
-      go true = burns-left r.dev (ready-left (block_of e) e s).0
-      go false = ready-left (block_of e) e s
+      go true = burns_left r.dev (ready_left (block_of e) e s).0
+      go false = ready_left (block_of e) e s
 
   -- ---- where a step of it fails there is a reason
 
@@ -277,51 +277,51 @@ module _ (l : Lent) (Asks : ℕ → Type 0) (d : Dev) where
 
     -- a reason stays one
     later : {e f : Dev} → e.store.calls ≤ f.store.calls → Reason l Asks d e → Reason l Asks d f
-    later h = reason-wide (le_refl d.store.calls) h (λ k a. a)
+    later h = reason_wide (le_refl d.store.calls) h (λ k a. a)
 
     -- what succeeds has none to give
     done : (o : Out) → o.ok ≡ true → Fair o
-    done o t e = false-true (sym e ∙ t)
+    done o t e = false_true (sym e ∙ t)
 
     -- one after the other
-    next-fair : (o : Out) (f : Dev → Out) → Fair o → (o.ok ≡ true → Fair (f o.dev)) → Fair (and_then o f)
-    next-fair o f h k = go o.ok refl
+    next_fair : (o : Out) (f : Dev → Out) → Fair o → (o.ok ≡ true → Fair (f o.dev)) → Fair (and_then o f)
+    next_fair o f h k = go o.ok refl
       where
         go : (b : Bool) → o.ok ≡ b → Fair (cond b (f o.dev) o)
         go true t = k t
         go false t = h
 
     -- a chip call that succeeds unless its number is told to fail
-    call-fair : (e : Dev) (o : Out) → Still e → Call e o.dev → (failing l.faults e.store.calls ≡ false → o.ok ≡ true) → Fair o
-    call-fair e o s c well t = go (failing l.faults e.store.calls) refl
+    call_fair : (e : Dev) (o : Out) → Still e → Call e o.dev → (failing l.faults e.store.calls ≡ false → o.ok ≡ true) → Fair o
+    call_fair e o s c well t = go (failing l.faults e.store.calls) refl
       where
         go : (b : Bool) → failing l.faults e.store.calls ≡ b → Reason l Asks d o.dev
         go true u =
             let n : o.dev.store.calls ≡ next_call e.store.calls = ap (λ (x : Store). x.calls) c.number in
             error (record { number = e.store.calls; after = (s.kept.calls most).0; before = omega arith; fails = u })
-        go false u = false-true (sym t ∙ well u)
+        go false u = false_true (sym t ∙ well u)
 
     -- a question about a block
-    asks-fair : (k : ℕ) (e : Dev) → Still e → Asks k → k < length l.marks → Fair (asks_good l k e)
-    asks-fair k e s a h = go (eqb (get_or l.marks k 0) 255) refl
+    asks_fair : (k : ℕ) (e : Dev) → Still e → Asks k → k < length l.marks → Fair (asks_good l k e)
+    asks_fair k e s a h = go (eqb (get_or l.marks k 0) 255) refl
       where
         go : (b : Bool) → eqb (get_or l.marks k 0) 255 ≡ b → Fair (asks_good l k e)
         go true u =
-            call-fair e (asks_good l k e) s (asks-call l k e)
-            (λ q. ap (λ (o : Out). o.ok) (asks-good l e.store e.chip e.buf q k (eqb-true (get_or l.marks k 0) 255 u)))
+            call_fair e (asks_good l k e) s (asks_call l k e)
+            (λ q. ap (λ (o : Out). o.ok) (asks_good_lem l e.store e.chip e.buf q k (eqb-true (get_or l.marks k 0) 255 u)))
         go false u = λ t. bad k a h (eqb-false (get_or l.marks k 0) 255 u)
 
     -- a checked erase of a block on the chip
-    checked-fair : (k : ℕ) (e : Dev) → Still e → Asks k → k < e.store.shape.blocks → Fair (erase_checked l k e)
+    checked_fair : (k : ℕ) (e : Dev) → Still e → Asks k → k < e.store.shape.blocks → Fair (erase_checked l k e)
     unfolding erase_checked
-    checked-fair k e s a h =
+    checked_fair k e s a h =
         let x : Dev = (asks_good l k e).dev in
-        let i : Still x = calls e x (asks-call l k e) s in
-        let n : x.store.shape.blocks ≡ e.store.shape.blocks = ap (λ (y : Store). y.shape.blocks) (asks-call l k e).number in
+        let i : Still x = calls e x (asks_call l k e) s in
+        let n : x.store.shape.blocks ≡ e.store.shape.blocks = ap (λ (y : Store). y.shape.blocks) (asks_call l k e).number in
         let f : k * block_size x.store + block_size x.store ≤ length x.chip = rw i.within.whole (block_inside k (block_size x.store) x.store.shape.blocks (omega arith)) in
         rw (lt-ltb k e.store.shape.blocks h)
-        (next-fair (asks_good l k e) (erase_block l.faults k) (asks-fair k e s a (rw s.within.marked h))
-        (λ t. call-fair x (erase_block l.faults k x) i (erase_call l.faults k x) (λ q. ap (λ (o : Out). o.ok) (erase-good l x.store x.chip x.buf q k f))))
+        (next_fair (asks_good l k e) (erase_block l.faults k) (asks_fair k e s a (rw s.within.marked h))
+        (λ t. call_fair x (erase_block l.faults k x) i (erase_call l.faults k x) (λ q. ap (λ (o : Out). o.ok) (erase_good l x.store x.chip x.buf q k f))))
 
     -- ---- flush
 
@@ -330,26 +330,26 @@ module _ (l : Lent) (Asks : ℕ → Type 0) (d : Dev) where
     Blank e = take (length (page_of e)) (drop e.store.at e.chip) ≡ blanks (length (page_of e))
 
     -- a page programmed where it is blank
-    burns-fair : (e : Dev) → Trying e → Blank e → Fair (burns l e)
+    burns_fair : (e : Dev) → Trying e → Blank e → Fair (burns l e)
     unfolding burns
-    burns-fair e s blank = go w.ok refl
+    burns_fair e s blank = go w.ok refl
       where
         w : Out
         w = program_page l.faults e.store.at (page_of e) e
 
         fair : Fair w
         fair =
-            call-fair e w s.0 (page-call l.faults e.store.at (page_of e) e)
-            (λ q. ap (λ (o : Out). o.ok) (page-good l e.store e.chip e.buf q e.store.at (page_of e) (s.0.within.bytes s.1) (page-fits l e s.0.within s.1) blank))
+            call_fair e w s.0 (page_call l.faults e.store.at (page_of e) e)
+            (λ q. ap (λ (o : Out). o.ok) (page_good l e.store e.chip e.buf q e.store.at (page_of e) (s.0.within.bytes s.1) (page_fits l e s.0.within s.1) blank))
 
         go : (b : Bool) → w.ok ≡ b → Fair (cond b w (out false (remember None w.dev)))
         go true u = fair
         go false u = λ z. later (le_refl w.dev.store.calls) (fair u)
 
     -- a try to flush into a block that has to be erased first
-    attempt-fair : (e : Dev) → Trying e → e.store.erased ≡ None → Fair (attempt l e)
+    attempt_fair : (e : Dev) → Trying e → e.store.erased ≡ None → Fair (attempt l e)
     unfolding attempt ready
-    attempt-fair e s none = rw (ap (λ (y : Erased). is_erased y k) none ∙ none-erased k) (go x.ok refl)
+    attempt_fair e s none = rw (ap (λ (y : Erased). is_erased y k) none ∙ none_erased k) (go x.ok refl)
       where
         k : ℕ
         k = block_of e
@@ -359,14 +359,14 @@ module _ (l : Lent) (Asks : ℕ → Type 0) (d : Dev) where
 
         go : (b : Bool) → x.ok ≡ b → Fair (and_then (cond b (out true (remember (Block k) x.dev)) (out false (remember None x.dev))) (burns l))
         go true u =
-            burns-fair (remember (Block k) x.dev) (trying-notes (Block k) x.dev (checked-keeps Trying trying-calls trying-notes l k e s))
-            (subst (λ (y : Dev). Blank (remember (Block k) y)) (sym (checked-was l k e (block_on l e s.0.within s.1) u)) (blanked-page l e s.0.within s.1))
-        go false u = λ z. later (le_refl x.dev.store.calls) (checked-fair k e s.0 (s.0.asks s.1) (block_on l e s.0.within s.1) u)
+            burns_fair (remember (Block k) x.dev) (trying_notes (Block k) x.dev (checked_keeps Trying trying_calls trying_notes l k e s))
+            (subst (λ (y : Dev). Blank (remember (Block k) y)) (sym (checked_was l k e (block_on l e s.0.within s.1) u)) (blanked_page l e s.0.within s.1))
+        go false u = λ z. later (le_refl x.dev.store.calls) (checked_fair k e s.0 (s.0.asks s.1) (block_on l e s.0.within s.1) u)
 
     -- a flush: where it fails, so did its second try, which had to erase the block
-    flushes-fair : (e : Dev) → Still e → Fair (flushes l e)
+    flushes_fair : (e : Dev) → Still e → Fair (flushes l e)
     unfolding flushes
-    flushes-fair e s = go e.store.held refl
+    flushes_fair e s = go e.store.held refl
       where
         a : Out
         a = attempt l e
@@ -376,23 +376,23 @@ module _ (l : Lent) (Asks : ℕ → Type 0) (d : Dev) where
 
         again : e.store.held ≡ true → (b : Bool) → a.ok ≡ b → Fair (cond b a (attempt l a.dev))
         again t true u = done a u
-        again t false u = let x = attempt-left e (s, t) in attempt-fair a.dev x.0 (x.1 u)
+        again t false u = let x = attempt_left e (s, t) in attempt_fair a.dev x.0 (x.1 u)
 
         go : (b : Bool) → e.store.held ≡ b → Fair (cond b (and_then (or_else a (attempt l)) f) (out true e))
-        go true t = next-fair (or_else a (attempt l)) f (again t a.ok refl) (λ u. done (f (or_else a (attempt l)).dev) refl)
+        go true t = next_fair (or_else a (attempt l)) f (again t a.ok refl) (λ u. done (f (or_else a (attempt l)).dev) refl)
         go false t = done (out true e) refl
 
     -- the flush that a caller asks for
-    flushed-fair : (e : Dev) → Still e → Fair (flushed l e)
+    flushed_fair : (e : Dev) → Still e → Fair (flushed l e)
     unfolding flushed
-    flushed-fair e s = next-fair (flushes l e) (λ f. out true (remember None f)) (flushes-fair e s) (λ t. done (out true (remember None (flushes l e).dev)) refl)
+    flushed_fair e s = next_fair (flushes l e) (λ f. out true (remember None f)) (flushes_fair e s) (λ t. done (out true (remember None (flushes l e).dev)) refl)
 
     -- ---- read
 
     -- a read gives as many bytes as there is room, or there is a reason
-    read-fair : (off : ℕ) (room : List ℕ) (e : Dev) → Still e → Inside e off (length room)
+    read_fair : (off : ℕ) (room : List ℕ) (e : Dev) → Still e → Inside e off (length room)
         → ((read_out l off room e).told.count ≡ length room) ⊎ Reason l Asks d (read_out l off room e).told.dev
-    read-fair off room e s i = flush-first f.ok refl
+    read_fair off room e s i = flush_first f.ok refl
       where
         f : Out
         f = flushes l e
@@ -401,7 +401,7 @@ module _ (l : Lent) (Asks : ℕ → Type 0) (d : Dev) where
         Whole x = (x.told.count ≡ length room) ⊎ Reason l Asks d x.told.dev
 
         k : Kept e f.dev
-        k = flushes-kept l e
+        k = flushes_kept l e
 
         c : f.dev.store.shape.capacity ≡ e.store.shape.capacity
         c = ap (λ (x : Shape). x.capacity) k.shape
@@ -417,53 +417,53 @@ module _ (l : Lent) (Asks : ℕ → Type 0) (d : Dev) where
             let g = fetched l.faults off f.dev.store f.dev.chip (take n room) in
             let h = dev g.store f.dev.chip f.dev.buf in
             let fair : Fair (out g.ok h) =
-            call-fair f.dev (out g.ok h) (flushes-still e s) (record { number = fetched-number l.faults off f.dev.store f.dev.chip (take n room); buf = refl; size = refl })
-            (λ q. ap (λ (x : Got). x.ok) (fetched-well l.faults f.dev.store f.dev.chip q off (take n room) b)) in
+            call_fair f.dev (out g.ok h) (flushes_still e s) (record { number = fetched_number l.faults off f.dev.store f.dev.chip (take n room); buf = refl; size = refl })
+            (λ q. ap (λ (x : Got). x.ok) (fetched_well l.faults f.dev.store f.dev.chip q off (take n room) b)) in
             subst Whole (read_told l off room e refl u n j z refl refl) (answered g.ok n h q fair)
           where
             answered : (b : Bool) (n : ℕ) (h : Dev) → n ≡ length room → Fair (out b h) → (cond b n 0 ≡ length room) ⊎ Reason l Asks d h
             answered true n h q fair = inl q
             answered false n h q fair = inr (fair refl)
 
-        flush-first : (b : Bool) → f.ok ≡ b → Whole (read_out l off room e)
-        flush-first true u = some u (length room) refl
-        flush-first false u = subst Whole (read-unflushed l off room e refl u) (inr (flushes-fair e s u))
+        flush_first : (b : Bool) → f.ok ≡ b → Whole (read_out l off room e)
+        flush_first true u = some u (length room) refl
+        flush_first false u = subst Whole (read_unflushed l off room e refl u) (inr (flushes_fair e s u))
 
     -- ---- erase
 
     -- n blocks from block k on
-    erase_n-fair : (n k : ℕ) (e : Dev) → Still e → k + n ≤ d.store.shape.blocks → ((j : ℕ) → k ≤ j → j < k + n → Asks j) → Fair (erase_n l n k e)
+    erase_n_fair : (n k : ℕ) (e : Dev) → Still e → k + n ≤ d.store.shape.blocks → ((j : ℕ) → k ≤ j → j < k + n → Asks j) → Fair (erase_n l n k e)
     unfolding erase_n
-    erase_n-fair zero k e s h a = done (out true e) refl
-    erase_n-fair (suc n) k e s h a =
+    erase_n_fair zero k e s h a = done (out true e) refl
+    erase_n_fair (suc n) k e s h a =
         let m : e.store.shape.blocks ≡ d.store.shape.blocks = ap (λ (x : Shape). x.blocks) s.kept.shape in
-        next-fair (erase_checked l k e) (erase_n l n (k + 1)) (checked-fair k e s (a k (le_refl k) (omega arith)) (omega arith))
-        (λ t. erase_n-fair n (k + 1) (erase_checked l k e).dev (checked-keeps Still calls notes l k e s) (omega arith) (λ j x y. a j (omega arith) (omega arith)))
+        next_fair (erase_checked l k e) (erase_n l n (k + 1)) (checked_fair k e s (a k (le_refl k) (omega arith)) (omega arith))
+        (λ t. erase_n_fair n (k + 1) (erase_checked l k e).dev (checked_keeps Still calls notes l k e s) (omega arith) (λ j x y. a j (omega arith) (omega arith)))
 
     module _ (start size : ℕ) (i : Inside d start size) (touches : (k : ℕ) → Touched d start size k → Asks k) where
       -- the blocks of a range
-      range-fair : (e : Dev) → Still e → Fair (erase_range l start size e)
+      range_fair : (e : Dev) → Still e → Fair (erase_range l start size e)
       unfolding erase_range
-      range-fair e s =
+      range_fair e s =
           let b = block_size e.store in
           let end = sat_add start size in
           let n = pages_of b (end - base b start) in
           let q : b ≡ block_size d.store = ap (λ (x : Shape). x.page * x.pages) s.kept.shape in
           let c : e.store.shape.capacity ≡ d.store.shape.capacity = ap (λ (x : Shape). x.capacity) s.kept.shape in
           let m : e.store.shape.blocks ≡ d.store.shape.blocks = ap (λ (x : Shape). x.blocks) s.kept.shape in
-          let some : 0 < b = mul-le-mul s.within.page-some s.within.pages-some in
+          let some : 0 < b = mul-le-mul s.within.page_some s.within.pages_some in
           let last : start + size ≤ e.store.shape.blocks * b = rw (← s.within.whole) (omega (arith, s.kept.chip, i.short)) in
           let most : start / b + n ≤ e.store.shape.blocks = range_inside b start end e.store.shape.blocks some (omega arith) (omega arith) in
           rw (le-leb end e.store.shape.capacity (omega (arith, i.low)))
-          (erase_n-fair n (start / b) e s (omega arith)
-          (λ j x y. touches j (subst (λ (z : ℕ). (start / z ≤ j) × (j * z < start + size)) q (x, range-touches b start end (start + size) j some (omega arith) (omega arith) y))))
+          (erase_n_fair n (start / b) e s (omega arith)
+          (λ j x y. touches j (subst (λ (z : ℕ). (start / z ≤ j) × (j * z < start + size)) q (x, range_touches b start end (start + size) j some (omega arith) (omega arith) y))))
 
       -- after the flush
-      erased-fair : (e : Dev) → Still e → Fair (erased l start size e)
+      erased_fair : (e : Dev) → Still e → Fair (erased l start size e)
       unfolding erased
-      erased-fair e s =
-          next-fair (flushes l e) (λ f. erase_range l start size (remember None f)) (flushes-fair e s)
-          (λ t. range-fair (remember None (flushes l e).dev) (notes None (flushes l e).dev (flushes-still e s)))
+      erased_fair e s =
+          next_fair (flushes l e) (λ f. erase_range l start size (remember None f)) (flushes_fair e s)
+          (λ t. range_fair (remember None (flushes l e).dev) (notes None (flushes l e).dev (flushes_still e s)))
 
   -- ---- write
 
@@ -474,36 +474,36 @@ module _ (l : Lent) (Asks : ℕ → Type 0) (d : Dev) where
   -- bytes of a range whose blocks it may ask about
   module _ (off n : ℕ) (i : Inside d off n) (touches : (k : ℕ) → Touched d off n k → Asks k) (room : d.store.shape.page ≤ length d.buf) where
     -- a page of the range begun
-    begins-still : (a : ℕ) (e : Dev) → off ≤ a → a < off + n → Still e → Still (begins (base d.store.shape.page a) e)
+    begins_still : (a : ℕ) (e : Dev) → off ≤ a → a < off + n → Still e → Still (begins (base d.store.shape.page a) e)
     unfolding begins
-    begins-still a e h k s =
+    begins_still a e h k s =
         let p = d.store.shape.page in
         let b = block_size d.store in
         let q : e.store.shape.page ≡ p = ap (λ (x : Shape). x.page) s.kept.shape in
         let low : a / b * b ≤ a = div-mul-le_self a b in
-        let some : 0 < p = omega (arith, s.within.page-some) in
+        let some : 0 < p = omega (arith, s.within.page_some) in
         let pages : e.store.shape.pages ≡ d.store.shape.pages = ap (λ (x : Shape). x.pages) s.kept.shape in
-        let size : 0 < b = mul-le-mul some (rw pages at s.within.pages-some) in
+        let size : 0 < b = mul-le-mul some (rw pages at s.within.pages_some) in
         let first : off / b ≤ a / b = (le-div_iff_mul-le {k = b} {x = off / b} {y = a} size).1 (omega (arith, div-mul-le_self off b)) in
-        let x : Asks (base p a / b) = subst Asks (sym (page-block a p d.store.shape.pages some)) (touches (a / b) (first, omega arith)) in
+        let x : Asks (base p a / b) = subst Asks (sym (page_block a p d.store.shape.pages some)) (touches (a / b) (first, omega arith)) in
         record {
-          within = begin-within l p a e q s.within (omega (arith, s.kept.chip, i.short));
+          within = begin_within l p a e q s.within (omega (arith, s.kept.chip, i.short));
           kept = begun d room a e (omega (arith, i.low)) s.kept;
           asks = λ z. subst (λ (y : Shape). Asks (base p a / (y.page * y.pages))) (sym s.kept.shape) x;
         }
 
     module _ (a : ℕ) (e : Dev) (s : Still e) where
       -- the page of an address, brought in
-      loads-still : off ≤ a → a < off + n → Still (loads l d.store.shape.page a e).dev
+      loads_still : off ≤ a → a < off + n → Still (loads l d.store.shape.page a e).dev
       unfolding loads
-      loads-still h k =
+      loads_still h k =
           let b = base d.store.shape.page a in
           let f : Dev → Out = λ x. out true (begins b x) in
-          either Still (holds e.store b) (out true e) (and_then (flushes l e) f) s (next Still (flushes l e) f (flushes-still e s) (λ x y. begins-still a x h k y))
+          either Still (holds e.store b) (out true e) (and_then (flushes l e) f) s (next Still (flushes l e) f (flushes_still e s) (λ x y. begins_still a x h k y))
 
-      loads-fair : (most : d.store.calls ≤ 18446744073709551615) → Fair most (loads l d.store.shape.page a e)
+      loads_fair : (most : d.store.calls ≤ 18446744073709551615) → Fair most (loads l d.store.shape.page a e)
       unfolding loads
-      loads-fair most = go (holds e.store b)
+      loads_fair most = go (holds e.store b)
         where
           b : ℕ
           b = base d.store.shape.page a
@@ -513,14 +513,14 @@ module _ (l : Lent) (Asks : ℕ → Type 0) (d : Dev) where
 
           go : (t : Bool) → Fair most (cond t (out true e) (and_then (flushes l e) f))
           go true = done most (out true e) refl
-          go false = next-fair most (flushes l e) f (flushes-fair most e s) (λ u. done most (f (flushes l e).dev) refl)
+          go false = next_fair most (flushes l e) f (flushes_fair most e s) (λ u. done most (f (flushes l e).dev) refl)
 
     -- bytes of the range one after the other
-    writes-fair : (xs : List ℕ) (a : ℕ) (e : Dev) → off ≤ a → a + length xs ≤ off + n → Bytes xs → Still e
+    writes_fair : (xs : List ℕ) (a : ℕ) (e : Dev) → off ≤ a → a + length xs ≤ off + n → Bytes xs → Still e
         → Wrote (writes d.store.shape.page (loads l d.store.shape.page) stays xs (run true a e))
     unfolding writes step seals stays
-    writes-fair [] a e h k b s = (s, λ most z. false-true (sym z))
-    writes-fair (x ∷ xs) a e h k b s = go (writes-fair xs (a + 1) z (omega arith) (omega arith) (λ j. b (suc j)) next-byte) y.ok refl
+    writes_fair [] a e h k b s = (s, λ most z. false_true (sym z))
+    writes_fair (x ∷ xs) a e h k b s = go (writes_fair xs (a + 1) z (omega arith) (omega arith) (λ j. b (suc j)) next_byte) y.ok refl
       where
         p : ℕ
         p = d.store.shape.page
@@ -529,21 +529,21 @@ module _ (l : Lent) (Asks : ℕ → Type 0) (d : Dev) where
         y = loads l p a e
 
         came : Still y.dev
-        came = loads-still a e s h (omega arith)
+        came = loads_still a e s h (omega arith)
 
         z : Dev
         z = dev y.dev.store y.dev.chip (set y.dev.buf (a % p) x)
 
-        next-byte : Still z
-        next-byte =
+        next_byte : Still z
+        next_byte =
             let q : y.dev.store.shape.page ≡ p = ap (λ (t : Shape). t.page) came.kept.shape in
-            let j : a % p < y.dev.store.shape.page = omega (arith, mod-lt a (rw q at came.within.page-some)) in
-            record { within = set-within l (a % p) x y.dev j (b 0) came.within; kept = with_byte d (a % p) x y.dev came.kept; asks = came.asks }
+            let j : a % p < y.dev.store.shape.page = omega (arith, mod-lt a (rw q at came.within.page_some)) in
+            record { within = set_within l (a % p) x y.dev j (b 0) came.within; kept = with_byte d (a % p) x y.dev came.kept; asks = came.asks }
 
         go : Wrote (writes p (loads l p) stays xs (run true (a + 1) z)) → (t : Bool) → y.ok ≡ t
             → Wrote (writes p (loads l p) stays xs (cond t (run true (a + 1) z) (run false a y.dev)))
         go rest true u = rest
-        go rest false u = rw (stopped p (loads l p) stays xs a y.dev) (came, λ most t. loads-fair a e s most u)
+        go rest false u = rw (stopped p (loads l p) stays xs a y.dev) (came, λ most t. loads_fair a e s most u)
 
 -- ---- the theorems
 
@@ -557,80 +557,80 @@ module _ (l : Lent) (d : Dev) (w : Within l d) where
   here : (Asks : ℕ → Type 0) → ((k : ℕ) → Held d k → Asks k) → Still l Asks d d
   here Asks h = record { within = w; kept = kept_refl d; asks = λ t. h (block_of d) (t, refl) }
 
-  about-held : Still l (Held d) d d
-  about-held = here (Held d) (λ k h. h)
+  about_held : Still l (Held d) d d
+  about_held = here (Held d) (λ k h. h)
 
-  about-range : (off n : ℕ) → Still l (HeldOrTouched d off n) d d
-  about-range off n = here (HeldOrTouched d off n) (λ k h. inl h)
+  about_range : (off n : ℕ) → Still l (HeldOrTouched d off n) d d
+  about_range off n = here (HeldOrTouched d off n) (λ k h. inl h)
 
   -- the bytes of a write, under way
   wrote : (off : ℕ) (xs : List ℕ) → Inside d off (length xs) → Bytes xs
       → Wrote l (HeldOrTouched d off (length xs)) d (writes d.store.shape.page (loads l d.store.shape.page) stays xs (run true off d))
   wrote off xs i b =
-      writes-fair l (HeldOrTouched d off (length xs)) d off (length xs) i (λ k t. inr t) w.room xs off d (le_refl off) (le_refl (off + length xs)) b (about-range off (length xs))
+      writes_fair l (HeldOrTouched d off (length xs)) d off (length xs) i (λ k t. inr t) w.room xs off d (le_refl off) (le_refl (off + length xs)) b (about_range off (length xs))
 
   -- ---- whatever happens, the state behind a call is within again
 
   -- behind the flush inside every call
-  pub flush-within : Within l (flushes l d).dev
-  flush-within = (flushes-still l (Held d) d d about-held).within
+  pub flush_within : Within l (flushes l d).dev
+  flush_within = (flushes_still l (Held d) d d about_held).within
 
   -- behind the flush that a caller asks for
-  pub flushed-within : Within l (flushed l d).dev
-  flushed-within = (flushed-still l (Held d) d d about-held).within
+  pub flushed_within : Within l (flushed l d).dev
+  flushed_within = (flushed_still l (Held d) d d about_held).within
 
   -- behind a read
-  pub read-within : (off : ℕ) (room : List ℕ) → Within l (read_out l off room d).told.dev
-  read-within off room = (read_out-still l (Held d) d d about-held off room).within
+  pub read_within : (off : ℕ) (room : List ℕ) → Within l (read_out l off room d).told.dev
+  read_within off room = (read_out_still l (Held d) d d about_held off room).within
 
   -- behind an erase
-  pub erase-within : (start size : ℕ) → Within l (erased l start size d).dev
-  erase-within start size = (erased-still l (Held d) d d about-held start size).within
+  pub erase_within : (start size : ℕ) → Within l (erased l start size d).dev
+  erase_within start size = (erased_still l (Held d) d d about_held start size).within
 
   -- behind a write of bytes below the capacity and below the chip's end
-  pub write-within : (off : ℕ) (xs : List ℕ) → Inside d off (length xs) → Bytes xs → Within l (written l off xs d).dev
-  write-within off xs i b = subst (λ (t : Told). Within l t.dev) (written-told l off xs d i.low refl) (wrote off xs i b).0.within
+  pub write_within : (off : ℕ) (xs : List ℕ) → Inside d off (length xs) → Bytes xs → Within l (written l off xs d).dev
+  write_within off xs i b = subst (λ (t : Told). Within l t.dev) (written_told l off xs d i.low refl) (wrote off xs i b).0.within
 
   -- ---- a page that is held behind a call is one that was held before it, or lies in a block that the call touches
 
   -- behind a read
   pub read_held : (off : ℕ) (room : List ℕ) (k : ℕ) → Held (read_out l off room d).told.dev k → Held d k
-  read_held off room k h = subst (Held d) (sym h.1) ((read_out-still l (Held d) d d about-held off room).asks h.0)
+  read_held off room k h = subst (Held d) (sym h.1) ((read_out_still l (Held d) d d about_held off room).asks h.0)
 
   -- behind a write
-  pub write-held : (off : ℕ) (xs : List ℕ) → Inside d off (length xs) → Bytes xs → (k : ℕ) → Held (written l off xs d).dev k → HeldOrTouched d off (length xs) k
-  write-held off xs i b k h =
+  pub write_held : (off : ℕ) (xs : List ℕ) → Inside d off (length xs) → Bytes xs → (k : ℕ) → Held (written l off xs d).dev k → HeldOrTouched d off (length xs) k
+  write_held off xs i b k h =
       let At : Dev → Type 0 = λ e. e.store.held ≡ true → HeldOrTouched d off (length xs) (block_of e) in
-      subst (HeldOrTouched d off (length xs)) (sym h.1) (subst (λ (t : Told). At t.dev) (written-told l off xs d i.low refl) (wrote off xs i b).0.asks h.0)
+      subst (HeldOrTouched d off (length xs)) (sym h.1) (subst (λ (t : Told). At t.dev) (written_told l off xs d i.low refl) (wrote off xs i b).0.asks h.0)
 
   -- ---- a call does all that it is asked, or it met a reason
 
   module _ (most : d.store.calls ≤ 18446744073709551615) where
     -- a flush succeeds, or one of its chip calls was told to fail, or the held page's block is marked bad
-    pub flush-or-reason : ((flushes l d).ok ≡ true) ⊎ Reason l (Held d) d (flushes l d).dev
-    flush-or-reason = either_way (flushes l d).ok (flushes-fair l (Held d) d most d about-held)
+    pub flush_or_reason : ((flushes l d).ok ≡ true) ⊎ Reason l (Held d) d (flushes l d).dev
+    flush_or_reason = either_way (flushes l d).ok (flushes_fair l (Held d) d most d about_held)
 
     -- and so does the flush that a caller asks for
-    pub flushed-or-reason : ((flushed l d).ok ≡ true) ⊎ Reason l (Held d) d (flushed l d).dev
-    flushed-or-reason = either_way (flushed l d).ok (flushed-fair l (Held d) d most d about-held)
+    pub flushed_or_reason : ((flushed l d).ok ≡ true) ⊎ Reason l (Held d) d (flushed l d).dev
+    flushed_or_reason = either_way (flushed l d).ok (flushed_fair l (Held d) d most d about_held)
 
     -- a read below the capacity and below the chip's end fills all of its room, or one of its chip calls was told to fail, or the held
     -- page's block is marked bad
-    pub read-or-reason : (off : ℕ) (room : List ℕ) → Inside d off (length room)
+    pub read_or_reason : (off : ℕ) (room : List ℕ) → Inside d off (length room)
         → ((read_out l off room d).told.count ≡ length room) ⊎ Reason l (Held d) d (read_out l off room d).told.dev
-    read-or-reason off room i = read-fair l (Held d) d most off room d about-held i
+    read_or_reason off room i = read_fair l (Held d) d most off room d about_held i
 
     -- an erase of a range below the capacity and below the chip's end succeeds, or one of its chip calls was told to fail, or the held
     -- page's block or one that the range touches is marked bad
-    pub erase-or-reason : (start size : ℕ) → Inside d start size → ((erased l start size d).ok ≡ true) ⊎ Reason l (HeldOrTouched d start size) d (erased l start size d).dev
-    erase-or-reason start size i =
-        either_way (erased l start size d).ok (erased-fair l (HeldOrTouched d start size) d most start size i (λ k t. inr t) d (about-range start size))
+    pub erase_or_reason : (start size : ℕ) → Inside d start size → ((erased l start size d).ok ≡ true) ⊎ Reason l (HeldOrTouched d start size) d (erased l start size d).dev
+    erase_or_reason start size i =
+        either_way (erased l start size d).ok (erased_fair l (HeldOrTouched d start size) d most start size i (λ k t. inr t) d (about_range start size))
 
     -- a write of bytes below the capacity and below the chip's end takes them all, or one of its chip calls was told to fail, or the
     -- held page's block or one that the bytes touch is marked bad
-    pub write-or-reason : (off : ℕ) (xs : List ℕ) → Inside d off (length xs) → Bytes xs
+    pub write_or_reason : (off : ℕ) (xs : List ℕ) → Inside d off (length xs) → Bytes xs
         → ((written l off xs d).count ≡ length xs) ⊎ Reason l (HeldOrTouched d off (length xs)) d (written l off xs d).dev
-    write-or-reason off xs i b = subst Whole (written-told l off xs d i.low refl) (go o.ok refl)
+    write_or_reason off xs i b = subst Whole (written_told l off xs d i.low refl) (go o.ok refl)
       where
         Whole : Told → Type 0
         Whole t = (t.count ≡ length xs) ⊎ Reason l (HeldOrTouched d off (length xs)) d t.dev
@@ -650,7 +650,7 @@ module _ (l : Lent) (d : Dev) (w : Within l d) where
 -- two blocks of two pages of four bytes
 module _ (e : Erased) (chip buf : List ℕ) (c : length chip ≡ 16) (r : 4 ≤ length buf) where
   free : (l : Lent) → length l.marks ≡ 2 → Within l (dev (noting e (nand_store 4 2 2 16 0 0)) chip buf)
-  free l m = within-free l 4 2 2 16 0 0 e chip buf (omega arith) (omega arith) m c r
+  free l m = within_free l 4 2 2 16 0 0 e chip buf (omega arith) (omega arith) m c r
 
   -- with the page at 4 held and blank
   abbrev holds_four : Dev
@@ -658,38 +658,38 @@ module _ (e : Erased) (chip buf : List ℕ) (c : length chip ≡ 16) (r : 4 ≤ 
 
   four : (l : Lent) → length l.marks ≡ 2 → Within l holds_four
   unfolding begins
-  four l m = begin-within l 4 4 (dev (noting e (nand_store 4 2 2 16 0 0)) chip buf) refl (free l m) (omega arith)
+  four l m = begin_within l 4 4 (dev (noting e (nand_store 4 2 2 16 0 0)) chip buf) refl (free l m) (omega arith)
 
   -- on a clean chip it is flushed, whatever block was erased last and whatever the chip holds there
-  pub example-flush : (flushes (lent [] (blanks 2)) holds_four).ok ≡ true
-  example-flush = surely (no-reason (good-blank 2)) (flush-or-reason (lent [] (blanks 2)) holds_four (four (lent [] (blanks 2)) (length-blanks 2)) (omega arith))
+  pub example_flush : (flushes (lent [] (blanks 2)) holds_four).ok ≡ true
+  example_flush = surely (no_reason (good_blank 2)) (flush_or_reason (lent [] (blanks 2)) holds_four (four (lent [] (blanks 2)) (length_blanks 2)) (omega arith))
 
   -- three bytes from address 7 on, over a page's and a block's end, are all written
-  pub example-write : (written (lent [] (blanks 2)) 7 (1 ∷ 2 ∷ 3 ∷ []) (dev (noting e (nand_store 4 2 2 16 0 0)) chip buf)).count ≡ 3
-  example-write =
-      let b : Bytes (1 ∷ 2 ∷ 3 ∷ []) = bytes-more 1 (2 ∷ 3 ∷ []) (omega arith) (bytes-more 2 (3 ∷ []) (omega arith) (bytes-more 3 [] (omega arith) (λ i. omega arith))) in
-      surely (no-reason (good-blank 2))
-      (write-or-reason (lent [] (blanks 2)) (dev (noting e (nand_store 4 2 2 16 0 0)) chip buf) (free (lent [] (blanks 2)) (length-blanks 2)) (omega arith)
+  pub example_write : (written (lent [] (blanks 2)) 7 (1 ∷ 2 ∷ 3 ∷ []) (dev (noting e (nand_store 4 2 2 16 0 0)) chip buf)).count ≡ 3
+  example_write =
+      let b : Bytes (1 ∷ 2 ∷ 3 ∷ []) = bytes_more 1 (2 ∷ 3 ∷ []) (omega arith) (bytes_more 2 (3 ∷ []) (omega arith) (bytes_more 3 [] (omega arith) (λ i. omega arith))) in
+      surely (no_reason (good_blank 2))
+      (write_or_reason (lent [] (blanks 2)) (dev (noting e (nand_store 4 2 2 16 0 0)) chip buf) (free (lent [] (blanks 2)) (length_blanks 2)) (omega arith)
       7 (1 ∷ 2 ∷ 3 ∷ []) (record { low = omega arith; short = omega arith }) b)
 
   -- call 0 is told to fail, and block 1 is marked bad
   abbrev flawed : Lent
   flawed = lent (1 ∷ 0 ∷ []) (255 ∷ 0 ∷ [])
 
-  later-quiet : (n : ℕ) → 1 ≤ n → failing (1 ∷ 0 ∷ []) n ≡ false
+  later_quiet : (n : ℕ) → 1 ≤ n → failing (1 ∷ 0 ∷ []) n ≡ false
   unfolding failing
-  later-quiet n h = let m : min n 1 ≡ 1 = omega arith in rw m
+  later_quiet n h = let m : min n 1 ≡ 1 = omega arith in rw m
 
   -- call 0 is over, and the page at 4 lies in block 0
   abbrev one_call_on : Dev
   one_call_on = dev (called holds_four.store) holds_four.chip holds_four.buf
 
-  no-flaw-met : {f : Dev} → Reason flawed (Held one_call_on) one_call_on f → ⊥
-  no-flaw-met (error x) = false-true (sym (later-quiet x.number x.after) ∙ x.fails)
-  no-flaw-met (bad k h m n) = n (ap (λ (j : ℕ). get_or (255 ∷ 0 ∷ []) j 0) h.1)
+  no_flaw_met : {f : Dev} → Reason flawed (Held one_call_on) one_call_on f → ⊥
+  no_flaw_met (error x) = false_true (sym (later_quiet x.number x.after) ∙ x.fails)
+  no_flaw_met (bad k h m n) = n (ap (λ (j : ℕ). get_or (255 ∷ 0 ∷ []) j 0) h.1)
 
   -- so it is flushed, though the lists are not clean
-  pub example-flaws-elsewhere : (flushes flawed one_call_on).ok ≡ true
-  example-flaws-elsewhere =
-      surely no-flaw-met
-      (flush-or-reason flawed one_call_on (within-as flawed holds_four one_call_on refl refl refl refl (λ t. t) (four flawed refl)) (omega arith))
+  pub example_flaws_elsewhere : (flushes flawed one_call_on).ok ≡ true
+  example_flaws_elsewhere =
+      surely no_flaw_met
+      (flush_or_reason flawed one_call_on (within_as flawed holds_four one_call_on refl refl refl refl (λ t. t) (four flawed refl)) (omega arith))

@@ -12,9 +12,9 @@ use Rattle.storage.specs.Fold.{base}
 use Rattle.storage.specs.Open.{nand_store, by_kind}
 use Rattle.storage.specs.Nand.{block_size, blanks, noting, begins}
 use Rattle.storage.specs.Store.{good}
-use Rattle.storage.proofs.Fold.{false-true}
+use Rattle.storage.proofs.Fold.{false_true}
 use Rattle.storage.proofs.Opens.{sound}
-use Rattle.storage.proofs.NandCalls.{length-blanks}
+use Rattle.storage.proofs.NandCalls.{length_blanks}
 use Rattle.storage.proofs.NandMoves.{start_is}
 
 -- ---- what is asked of a state, and of a range
@@ -31,8 +31,8 @@ block_of d = d.store.at / block_size d.store
 
 -- a store of a sound shape over a whole chip, with room for a page; a held page lies on its boundary within the chip
 pub record Within (l : Lent) (d : Dev) : Type 0 where
-  pub page-some : 0 < d.store.shape.page
-  pub pages-some : 0 < d.store.shape.pages
+  pub page_some : 0 < d.store.shape.page
+  pub pages_some : 0 < d.store.shape.pages
   pub marked : length l.marks ≡ d.store.shape.blocks
   pub whole : length d.chip ≡ d.store.shape.blocks * block_size d.store
   pub room : d.store.shape.page ≤ length d.buf
@@ -48,19 +48,19 @@ pub record Inside (d : Dev) (off n : ℕ) : Type 0 where
 -- ---- bytes below 256
 
 -- 0xFF is a byte
-bytes-blanks : (n : ℕ) → Bytes (blanks n)
+bytes_blanks : (n : ℕ) → Bytes (blanks n)
 unfolding blanks
-bytes-blanks zero i = omega arith
-bytes-blanks (suc n) zero = omega arith
-bytes-blanks (suc n) (suc i) = bytes-blanks n i
+bytes_blanks zero i = omega arith
+bytes_blanks (suc n) zero = omega arith
+bytes_blanks (suc n) (suc i) = bytes_blanks n i
 
 -- bytes with a byte set in them
-bytes-set : (xs : List ℕ) (i x : ℕ) → x < 256 → Bytes xs → Bytes (set xs i x)
-bytes-set [] i x k h j = h j
-bytes-set (y ∷ ys) zero x k h zero = k
-bytes-set (y ∷ ys) zero x k h (suc j) = h (suc j)
-bytes-set (y ∷ ys) (suc i) x k h zero = h 0
-bytes-set (y ∷ ys) (suc i) x k h (suc j) = bytes-set ys i x k (λ n. h (suc n)) j
+bytes_set : (xs : List ℕ) (i x : ℕ) → x < 256 → Bytes xs → Bytes (set xs i x)
+bytes_set [] i x k h j = h j
+bytes_set (y ∷ ys) zero x k h zero = k
+bytes_set (y ∷ ys) zero x k h (suc j) = h (suc j)
+bytes_set (y ∷ ys) (suc i) x k h zero = h 0
+bytes_set (y ∷ ys) (suc i) x k h (suc j) = bytes_set ys i x k (λ n. h (suc n)) j
 
 -- the front of bytes
 pub bytes_take : (n : ℕ) (xs : List ℕ) → Bytes xs → Bytes (take n xs)
@@ -70,19 +70,19 @@ bytes_take (suc n) (x ∷ xs) h zero = h 0
 bytes_take (suc n) (x ∷ xs) h (suc i) = bytes_take n xs (λ j. h (suc j)) i
 
 -- a byte before bytes
-pub bytes-more : (x : ℕ) (xs : List ℕ) → x < 256 → Bytes xs → Bytes (x ∷ xs)
-bytes-more x xs k h zero = k
-bytes-more x xs k h (suc i) = h i
+pub bytes_more : (x : ℕ) (xs : List ℕ) → x < 256 → Bytes xs → Bytes (x ∷ xs)
+bytes_more x xs k h zero = k
+bytes_more x xs k h (suc i) = h i
 
 -- ---- the steps keep a state within
 
 -- a state with the same page and sizes, which holds nothing more
-pub within-as : (l : Lent) (e f : Dev) → f.store.shape ≡ e.store.shape → length f.chip ≡ length e.chip → f.buf ≡ e.buf → f.store.at ≡ e.store.at
+pub within_as : (l : Lent) (e f : Dev) → f.store.shape ≡ e.store.shape → length f.chip ≡ length e.chip → f.buf ≡ e.buf → f.store.at ≡ e.store.at
     → (f.store.held ≡ true → e.store.held ≡ true) → Within l e → Within l f
-within-as l e f shape long buf at held w =
+within_as l e f shape long buf at held w =
     record {
-      page-some = rw shape w.page-some;
-      pages-some = rw shape w.pages-some;
+      page_some = rw shape w.page_some;
+      pages_some = rw shape w.pages_some;
       marked = rw shape w.marked;
       whole = rw (shape, long) w.whole;
       room = rw (shape, buf) w.room;
@@ -92,67 +92,67 @@ within-as l e f shape long buf at held w =
     }
 
 -- a byte set in the page buffer
-pub set-within : (l : Lent) (i x : ℕ) (d : Dev) → i < d.store.shape.page → x < 256 → Within l d → Within l (dev d.store d.chip (set d.buf i x))
-set-within l i x d h k w =
+pub set_within : (l : Lent) (i x : ℕ) (d : Dev) → i < d.store.shape.page → x < 256 → Within l d → Within l (dev d.store d.chip (set d.buf i x))
+set_within l i x d h k w =
     record {
-      page-some = w.page-some;
-      pages-some = w.pages-some;
+      page_some = w.page_some;
+      pages_some = w.pages_some;
       marked = w.marked;
       whole = w.whole;
       room = rw (length-set d.buf i x) w.room;
       on = w.on;
       below = w.below;
-      bytes = λ t. subst (λ (ys : List ℕ). Bytes ys) (sym (take-set-lt d.store.shape.page d.buf i x h)) (bytes-set (page_of d) i x k (w.bytes t));
+      bytes = λ t. subst (λ (ys : List ℕ). Bytes ys) (sym (take-set-lt d.store.shape.page d.buf i x h)) (bytes_set (page_of d) i x k (w.bytes t));
     }
 
 -- a page of 0xFF begun for an address within the chip
-pub begin-within : (l : Lent) (p a : ℕ) (f : Dev) → f.store.shape.page ≡ p → Within l f → a < length f.chip → Within l (begins (base p a) f)
+pub begin_within : (l : Lent) (p a : ℕ) (f : Dev) → f.store.shape.page ≡ p → Within l f → a < length f.chip → Within l (begins (base p a) f)
 unfolding begins
-begin-within l p a f q w h =
+begin_within l p a f q w h =
     let n = f.store.shape.page in
-    let long : length (blanks n ++ drop n f.buf) ≡ length f.buf = length_front f.buf (blanks n) n (length-blanks n ∙ sym (length-take-le n f.buf w.room)) in
+    let long : length (blanks n ++ drop n f.buf) ≡ length f.buf = length_front f.buf (blanks n) n (length_blanks n ∙ sym (length-take-le n f.buf w.room)) in
     record {
-      page-some = w.page-some;
-      pages-some = w.pages-some;
+      page_some = w.page_some;
+      pages_some = w.pages_some;
       marked = w.marked;
       whole = w.whole;
       room = rw long w.room;
       on = λ t. rw q (ap (λ (i : ℕ). i % p) (sym (start_is p a)) ∙ mul-mod_left (a / p) p);
       below = λ t. omega arith;
-      bytes = λ t. subst (λ (ys : List ℕ). Bytes ys) (sym (take_at (blanks n) (drop n f.buf) n (length-blanks n))) (bytes-blanks n);
+      bytes = λ t. subst (λ (ys : List ℕ). Bytes ys) (sym (take_at (blanks n) (drop n f.buf) n (length_blanks n))) (bytes_blanks n);
     }
 
 -- ---- that it can be met
 
 -- as with what every call tests before it does anything, where a held page lies within the chip and is of bytes
-pub sound-within : (l : Lent) (d : Dev) → good l d ≡ true → d.store.shape.kind ≡ Nand → (d.store.held ≡ true → d.store.at < length d.chip)
+pub sound_within : (l : Lent) (d : Dev) → good l d ≡ true → d.store.shape.kind ≡ Nand → (d.store.held ≡ true → d.store.at < length d.chip)
     → (d.store.held ≡ true → Bytes (page_of d)) → Within l d
 unfolding good
-sound-within l d t k b h =
+sound_within l d t k b h =
     let s = sound d.store (length d.chip) (length l.marks) (length d.buf) t in
     let n = s.nand k in
     record {
-      page-some = omega (arith, n.numbers.page-low);
-      pages-some = omega (arith, n.numbers.pages-low);
-      marked = n.marks-are;
-      whole = n.chip-is ∙ mul_comm (d.store.shape.page * d.store.shape.pages) d.store.shape.blocks;
-      room = omega (arith, n.numbers.page-high, s.room);
+      page_some = omega (arith, n.numbers.page_low);
+      pages_some = omega (arith, n.numbers.pages_low);
+      marked = n.marks_are;
+      whole = n.chip_is ∙ mul_comm (d.store.shape.page * d.store.shape.pages) d.store.shape.blocks;
+      room = omega (arith, n.numbers.page_high, s.room);
       on = λ e. ap (λ (x : Kind). d.store.at % by_kind x 4096 d.store.shape.page) (sym k) ∙ s.held_start e;
       below = b;
       bytes = h;
     }
 
 -- as with a store that holds nothing, whatever block was erased last, over any chip of its size and any marks of its blocks
-pub within-free : (l : Lent) (page pages blocks capacity stage device : ℕ) (e : Erased) (chip buf : List ℕ) → 0 < page → 0 < pages → length l.marks ≡ blocks
+pub within_free : (l : Lent) (page pages blocks capacity stage device : ℕ) (e : Erased) (chip buf : List ℕ) → 0 < page → 0 < pages → length l.marks ≡ blocks
     → length chip ≡ blocks * (page * pages) → page ≤ length buf → Within l (dev (noting e (nand_store page pages blocks capacity stage device)) chip buf)
-within-free l page pages blocks capacity stage device e chip buf h k m c r =
+within_free l page pages blocks capacity stage device e chip buf h k m c r =
     record {
-      page-some = h;
-      pages-some = k;
+      page_some = h;
+      pages_some = k;
       marked = m;
       whole = c;
       room = r;
-      on = λ t. false-true t;
-      below = λ t. false-true t;
-      bytes = λ t. false-true t;
+      on = λ t. false_true t;
+      below = λ t. false_true t;
+      bytes = λ t. false_true t;
     }

@@ -1,5 +1,5 @@
--- Only named reasons, of the commands: whatever a command answers, it is OK or has its row of Why.antt. `runs-says` goes through every
--- command once, test by test as the definitions go; `fail-why`, `odd-why` and `unsupported-why` are its three cases.
+-- Only named reasons, of the commands: whatever a command answers, it is OK or has its row of Why.antt. `runs_says` goes through every
+-- command once, test by test as the definitions go; `fail_why`, `odd_why` and `unsupported_why` are its three cases.
 use Rattle.std.proofs.Math.Path.{◌≡◌, refl}
 use Rattle.std.proofs.Common.{sym, subst, length-take}
 use Rattle.std.specs.Prelude.{Bool, true, false, ◌&&◌, ◌||◌, ◌⊎◌, leb, eqb, take, drop}
@@ -38,9 +38,9 @@ use Rattle.engine.specs.Storing.{after_flush, end_upgrade, crc_query, probed, re
 use Rattle.engine.specs.Shell.{text_of, line_of, window_of, is_reset}
 use Rattle.engine.specs.Running.{run_erase, run_write, run_read, run_boot, run_by, run_line, shell_by, shell}
 use Rattle.engine.specs.Exec.{group_of, wrote_by, memory, storing, runs_by, runs}
-use Rattle.promises.specs.Why.{line_in, LineWhy, Off, cut_to, out_told, in_told, Unflushed, OutWhy, InWhy, RunWhy, Beyond, meta_in, Why, Large, of_scratch, of_shell, of_storage, of_word, of_more, known, Says, out-window, out-short, out-flush, in_window, in-short, write-cut, write-less, write-beyond, read-cut, read-beyond, shell-cut, shell-less, shell-text, shell-line, shell-run, end-flush, meta-cut, meta-magic, meta-flush, meta-unknown, crc-flush, table_none, fwc-cut, erase-cut, erase-flush, erase-failed, read-large, table-large}
-use Rattle.promises.specs.Picked.{picked, and-false, or-false, or_later, and_both}
-use Rattle.promises.specs.Lines.{Lined, line-lined}
+use Rattle.promises.specs.Why.{line_in, LineWhy, Off, cut_to, out_told, in_told, Unflushed, OutWhy, InWhy, RunWhy, Beyond, meta_in, Why, Large, of_scratch, of_shell, of_storage, of_word, of_more, known, Says, out_window, out_short, out_flush, in_window, in_short, write_cut, write_less, write_beyond, read_cut, read_beyond, shell_cut, shell_less, shell_text, shell_line_lem, shell_run, end_flush, meta_cut, meta_magic, meta_flush, meta_unknown, crc_flush, table_none, fwc_cut, erase_cut, erase_flush, erase_failed, read_large, table_large}
+use Rattle.promises.specs.Picked.{picked, and_false, or_false, or_later, and_both}
+use Rattle.promises.specs.Lines.{Lined, line_lined}
 
 -- ---- the commands
 
@@ -48,7 +48,7 @@ use Rattle.promises.specs.Lines.{Lined, line-lined}
 none_both : (xs ys : List ℕ) (c : ℕ) → one_of xs c ≡ false → one_of ys c ≡ false → one_of (xs ++ ys) c ≡ false
 unfolding one_of
 none_both [] ys c p q = q
-none_both (x ∷ xs) ys c p q = let h = or-false (eqb c x) (one_of xs c) p in rw h.0 (none_both xs ys c h.1 q)
+none_both (x ∷ xs) ys c p q = let h = or_false (eqb c x) (one_of xs c) p in rw h.0 (none_both xs ys c h.1 q)
 
 one_later : (x : ℕ) (xs : List ℕ) (c : ℕ) → one_of (x ∷ xs) c ≡ true → eqb c x ≡ false → one_of xs c ≡ true
 unfolding one_of
@@ -68,14 +68,14 @@ module _ (g : Given) (c : ℕ) (bytes : List ℕ) (w : World) where
   HasRow = Says (Why g c bytes w) (one_of known c ≡ false) (Large g c bytes w)
 
   -- OK with no data, or a fail reply
-  whether-says : (b : Bool) → (b ≡ false → Why g c bytes w) → HasRow (whether b)
-  whether-says true h = tt
-  whether-says false h = h refl
+  whether_says : (b : Bool) → (b ≡ false → Why g c bytes w) → HasRow (whether b)
+  whether_says true h = tt
+  whether_says false h = h refl
 
   -- where the window is not inside, and where it is
   pub beyond : (addr len : ℕ) → inside w.e.base (length w.scratch) addr len ≡ false → Beyond w addr len
   unfolding inside
-  beyond addr len e = go (and-false _ _ e)
+  beyond addr len e = go (and_false _ _ e)
     where
       go : (leb w.e.base addr ≡ false) ⊎ (leb (addr + len) (w.e.base + length w.scratch) ≡ false) → Beyond w addr len
       go (inl h) = inl (leb-false w.e.base addr h)
@@ -93,18 +93,18 @@ module _ (g : Given) (c : ℕ) (bytes : List ℕ) (w : World) where
       go p q (inr r) = omega arith
 
   -- the pair, or fewer than eight bytes
-  pub pair-says : (P : Pair → Type 0) → (8 ≤ length bytes → P (Both (word_at 4 bytes 0) (word_at 4 bytes 4))) → (length bytes < 8 → P Cut) → P (pair_of bytes)
+  pub pair_says : (P : Pair → Type 0) → (8 ≤ length bytes → P (Both (word_at 4 bytes 0) (word_at 4 bytes 4))) → (length bytes < 8 → P Cut) → P (pair_of bytes)
   unfolding pair_of
-  pair-says P h k = picked P (leb 8 (length bytes)) (Both (word_at 4 bytes 0) (word_at 4 bytes 4)) Cut (λ e. h (leb-true 8 (length bytes) e)) (λ e. k (leb-false 8 (length bytes) e))
+  pair_says P h k = picked P (leb 8 (length bytes)) (Both (word_at 4 bytes 0) (word_at 4 bytes 4)) Cut (λ e. h (leb-true 8 (length bytes) e)) (λ e. k (leb-false 8 (length bytes) e))
 
   -- more data than a reply takes
-  sent-says : (xs : List ℕ) → (4096 < length xs → Large g c bytes w) → HasRow (sent xs)
+  sent_says : (xs : List ℕ) → (4096 < length xs → Large g c bytes w) → HasRow (sent xs)
   unfolding sent
-  sent-says xs h = picked HasRow (leb (length xs) 4096) (ok xs) odd (λ e. tt) (λ e. h (leb-false (length xs) 4096 e))
+  sent_says xs h = picked HasRow (leb (length xs) 4096) (ok xs) odd (λ e. tt) (λ e. h (leb-false (length xs) 4096 e))
 
-  write-says : c ≡ 0x02 → HasRow (write_of w.e.base w.scratch bytes).answer
+  write_says : c ≡ 0x02 → HasRow (write_of w.e.base w.scratch bytes).answer
   unfolding write_of
-  write-says n = pair-says (λ p. HasRow (write_by w.e.base w.scratch bytes p).answer) (λ i. both) (write-cut n)
+  write_says n = pair_says (λ p. HasRow (write_by w.e.base w.scratch bytes p).answer) (λ i. both) (write_cut n)
     where
       a : ℕ
       a = word_at 4 bytes 0
@@ -113,17 +113,17 @@ module _ (g : Given) (c : ℕ) (bytes : List ℕ) (w : World) where
       m = word_at 4 bytes 4
 
       refused : (leb m (length bytes - 8) ≡ false) ⊎ (inside w.e.base (length w.scratch) a m ≡ false) → Why g c bytes w
-      refused (inl h) = write-less n (let k = leb-false m (length bytes - 8) h in omega arith)
-      refused (inr h) = write-beyond n (beyond a m h)
+      refused (inl h) = write_less n (let k = leb-false m (length bytes - 8) h in omega arith)
+      refused (inr h) = write_beyond n (beyond a m h)
 
       both : HasRow (write_by w.e.base w.scratch bytes (Both a m)).answer
       both =
           picked (λ (r : Wrote). HasRow r.answer) (leb m (length bytes - 8) && inside w.e.base (length w.scratch) a m) _ (wrote fail w.scratch) (λ e. tt)
-          (λ e. refused (and-false _ _ e))
+          (λ e. refused (and_false _ _ e))
 
-  read-says : c ≡ 0x03 → HasRow (read_of w.e.base w.scratch bytes)
+  read_says : c ≡ 0x03 → HasRow (read_of w.e.base w.scratch bytes)
   unfolding read_of
-  read-says n = pair-says (λ p. HasRow (read_by w.e.base w.scratch p)) both (read-cut n)
+  read_says n = pair_says (λ p. HasRow (read_by w.e.base w.scratch p)) both (read_cut n)
     where
       a : ℕ
       a = word_at 4 bytes 0
@@ -138,44 +138,44 @@ module _ (g : Given) (c : ℕ) (bytes : List ℕ) (w : World) where
       both i =
           picked HasRow (inside w.e.base (length w.scratch) a m) (cond (leb m 4112) (sent s) (ok [])) fail
           (λ e. picked HasRow (leb m 4112) (sent s) (ok [])
-          (λ h. sent-says s (λ k. let t = length-take m (drop (a - w.e.base) w.scratch) in read-large n i (not_beyond a m e) (omega arith) (leb-true m 4112 h))) (λ h. tt))
-          (λ e. read-beyond n (beyond a m e))
+          (λ h. sent_says s (λ k. let t = length-take m (drop (a - w.e.base) w.scratch) in read_large n i (not_beyond a m e) (omega arith) (leb-true m 4112 h))) (λ h. tt))
+          (λ e. read_beyond n (beyond a m e))
 
   -- ---- the commands over the storage
 
-  flush-says : (next : World → Ran) → (Unflushed g.lent (dev_of w) → Why g c bytes w) → HasRow (next (at_dev (flushing g.lent (dev_of w)).dev w)).answer
+  flush_says : (next : World → Ran) → (Unflushed g.lent (dev_of w) → Why g c bytes w) → HasRow (next (at_dev (flushing g.lent (dev_of w)).dev w)).answer
       → HasRow (after_flush w next (flushing g.lent (dev_of w))).answer
-  flush-says next h k =
+  flush_says next h k =
       let t = flushing g.lent (dev_of w) in
       picked (λ (r : Ran). HasRow r.answer) (eqb t.status 0) (next (at_dev t.dev w)) (ran fail (at_dev t.dev w)) (λ e. k) (λ e. h (eqb-false t.status 0 e))
 
-  end-says : c ≡ 0x0B → HasRow (end_upgrade g.lent w).answer
+  end_says : c ≡ 0x0B → HasRow (end_upgrade g.lent w).answer
   unfolding end_upgrade
-  end-says n = flush-says (ran (ok [])) (end-flush n) tt
+  end_says n = flush_says (ran (ok [])) (end_flush n) tt
 
-  crc-says : c ≡ 0x13 → HasRow (crc_query g.lent w).answer
+  crc_says : c ≡ 0x13 → HasRow (crc_query g.lent w).answer
   unfolding crc_query
-  crc-says n = flush-says (λ v. ran (ok (bytes_of 4 v.e.up.crc)) (probed g.lent v)) (crc-flush n) tt
+  crc_says n = flush_says (λ v. ran (ok (bytes_of 4 v.e.up.crc)) (probed g.lent v)) (crc_flush n) tt
 
-  fwc-says : c ≡ 0x18 → HasRow (read_fwc g.lent bytes w).answer
+  fwc_says : c ≡ 0x18 → HasRow (read_fwc g.lent bytes w).answer
   unfolding read_fwc
-  fwc-says n = pair-says (λ p. HasRow (read_fwc_by g.lent w p).answer) (λ i. tt) (fwc-cut n)
+  fwc_says n = pair_says (λ p. HasRow (read_fwc_by g.lent w p).answer) (λ i. tt) (fwc_cut n)
 
-  erase-says : c ≡ 0x1B → HasRow (erase_storage g.lent bytes w).answer
+  erase_says : c ≡ 0x1B → HasRow (erase_storage g.lent bytes w).answer
   unfolding erase_storage
-  erase-says n =
+  erase_says n =
       let e : World → Told = λ v. erasing g.lent (word_at 8 bytes 0) (word_at 8 bytes 8) (dev_of v) in
       let v = at_dev (flushing g.lent (dev_of w)).dev w in
       picked (λ (r : Ran). HasRow r.answer) (leb 24 (length bytes)) (after_flush w (λ v. erased_by v (e v)) (flushing g.lent (dev_of w))) (ran fail w)
-      (λ h. flush-says (λ v. erased_by v (e v)) (erase-flush n) (whether-says (eqb (e v).status 0) (λ k. erase-failed n (eqb-false (e v).status 0 k))))
-      (λ h. erase-cut n (leb-false 24 (length bytes) h))
+      (λ h. flush_says (λ v. erased_by v (e v)) (erase_flush n) (whether_says (eqb (e v).status 0) (λ k. erase_failed n (eqb-false (e v).status 0 k))))
+      (λ h. erase_cut n (leb-false 24 (length bytes) h))
 
-  target-says : c ≡ 0x10 → HasRow (answer_to (target_of g.lists (meta_in bytes)))
+  target_says : c ≡ 0x10 → HasRow (answer_to (target_of g.lists (meta_in bytes)))
   unfolding target_of
-  target-says n = go (partition_field (meta_in bytes)) refl
+  target_says n = go (partition_field (meta_in bytes)) refl
     where
       unknown : (b : ℕ) (f : List ℕ) → partition_field (meta_in bytes) ≡ b ∷ f → ((o : ℕ) → lookup g.lists (b ∷ f) ≡ found.At o → ⊥) → Why g c bytes w
-      unknown b f p h = meta-unknown n (λ q. let z : ◌≡◌ {A = ℕ} 0 1 = cc in omega arith) (rw p h)
+      unknown b f p h = meta_unknown n (λ q. let z : ◌≡◌ {A = ℕ} 0 1 = cc in omega arith) (rw p h)
 
       by : (b : ℕ) (f : List ℕ) → partition_field (meta_in bytes) ≡ b ∷ f → (x : Found) → lookup g.lists (b ∷ f) ≡ x → HasRow (answer_to (found_at x))
       by b f p (found.At o) e = tt
@@ -186,22 +186,22 @@ module _ (g : Given) (c : ℕ) (bytes : List ℕ) (w : World) where
       go [] p = tt
       go (x ∷ xs) p = by x xs p (lookup g.lists (x ∷ xs)) refl
 
-  meta-says : c ≡ 0x10 → HasRow (set_meta g.lent g.lists bytes w).answer
+  meta_says : c ≡ 0x10 → HasRow (set_meta g.lent g.lists bytes w).answer
   unfolding set_meta aims
-  meta-says n =
+  meta_says n =
       let m = meta_in bytes in
       let f = after_flush w (aims g.lists m) (flushing g.lent (dev_of w)) in
       picked (λ (r : Ran). HasRow r.answer) (leb 512 (length bytes)) (cond (is_meta m) f (ran fail w)) (ran fail w)
-      (λ h. picked (λ (r : Ran). HasRow r.answer) (is_meta m) f (ran fail w) (λ k. flush-says (aims g.lists m) (meta-flush n) (target-says n)) (meta-magic n))
-      (λ h. meta-cut n (leb-false 512 (length bytes) h))
+      (λ h. picked (λ (r : Ran). HasRow r.answer) (is_meta m) f (ran fail w) (λ k. flush_says (aims g.lists m) (meta_flush n) (target_says n)) (meta_magic n))
+      (λ h. meta_cut n (leb-false 512 (length bytes) h))
 
   -- ---- the shell
 
   -- the window, or an address off scratch
-  pub window-says : (addr len : ℕ) (P : Window → Type 0) → ((Off w addr → ⊥) → P (window.At (addr - w.e.base) (cut_to w addr len))) → (Off w addr → P window.Out)
+  pub window_says : (addr len : ℕ) (P : Window → Type 0) → ((Off w addr → ⊥) → P (window.At (addr - w.e.base) (cut_to w addr len))) → (Off w addr → P window.Out)
       → P (window_of w.e.base (length w.scratch) addr len)
   unfolding window_of
-  window-says addr len P h k = picked P (leb w.e.base addr && ltb addr (w.e.base + length w.scratch)) _ window.Out (λ e. h (on (and_both _ _ e))) (λ e. k (off (and-false _ _ e)))
+  window_says addr len P h k = picked P (leb w.e.base addr && ltb addr (w.e.base + length w.scratch)) _ window.Out (λ e. h (on (and_both _ _ e))) (λ e. k (off (and_false _ _ e)))
     where
       on : (leb w.e.base addr ≡ true) × (ltb addr (w.e.base + length w.scratch) ≡ true) → Off w addr → ⊥
       on y (inl x) = let k = leb-true w.e.base addr y.0 in omega arith
@@ -216,12 +216,12 @@ module _ (g : Given) (c : ℕ) (bytes : List ℕ) (w : World) where
   asks = at_e (with_flags w.e.upgrading (w.e.asked || is_reset (line_in bytes)) w.e) w
 
   module _ (n : c ≡ 0x05) where
-    out-says : (off len addr : ℕ) → line_of (line_in bytes) ≡ line.Write off len addr → HasRow (run_write g.lent off (window_of w.e.base (length w.scratch) addr len) asks).answer
+    out_says : (off len addr : ℕ) → line_of (line_in bytes) ≡ line.Write off len addr → HasRow (run_write g.lent off (window_of w.e.base (length w.scratch) addr len) asks).answer
     unfolding run_write
-    out-says off len addr e = window-says addr len (λ x. HasRow (run_write g.lent off x asks).answer) (λ i. at) (λ h. why (out-window h))
+    out_says off len addr e = window_says addr len (λ x. HasRow (run_write g.lent off x asks).answer) (λ i. at) (λ h. why (out_window h))
       where
         why : OutWhy g.lent w off len addr → Why g c bytes w
-        why h = shell-run n (subst (RunWhy g.lent w) (sym e) h)
+        why h = shell_run n (subst (RunWhy g.lent w) (sym e) h)
 
         t : Told
         t = out_told g.lent w off len addr
@@ -233,45 +233,45 @@ module _ (g : Given) (c : ℕ) (bytes : List ℕ) (w : World) where
         at =
             let u = at_dev t.dev asks in
             picked (λ (r : Ran). HasRow r.answer) (eqb t.count (cut_to w addr len)) (ran (whether (eqb f.status 0)) (at_dev f.dev u)) (ran fail u)
-            (λ k. whether-says (eqb f.status 0) (λ x. why (out-flush (eqb-false f.status 0 x)))) (λ k. why (out-short (eqb-false t.count (cut_to w addr len) k)))
+            (λ k. whether_says (eqb f.status 0) (λ x. why (out_flush (eqb-false f.status 0 x)))) (λ k. why (out_short (eqb-false t.count (cut_to w addr len) k)))
 
-    in-says : (off len addr : ℕ) → line_of (line_in bytes) ≡ line.Read off len addr → HasRow (run_read g.lent off (window_of w.e.base (length w.scratch) addr len) asks).answer
+    in_says : (off len addr : ℕ) → line_of (line_in bytes) ≡ line.Read off len addr → HasRow (run_read g.lent off (window_of w.e.base (length w.scratch) addr len) asks).answer
     unfolding run_read
-    in-says off len addr e =
-        let why : InWhy g.lent w off len addr → Why g c bytes w = λ h. shell-run n (subst (RunWhy g.lent w) (sym e) h) in
+    in_says off len addr e =
+        let why : InWhy g.lent w off len addr → Why g c bytes w = λ h. shell_run n (subst (RunWhy g.lent w) (sym e) h) in
         let t = in_told g.lent w off len addr in
-        window-says addr len (λ x. HasRow (run_read g.lent off x asks).answer)
-        (λ i. whether-says (eqb t.count (cut_to w addr len)) (λ x. why (in-short (eqb-false t.count (cut_to w addr len) x)))) (λ h. why (in_window h))
+        window_says addr len (λ x. HasRow (run_read g.lent off x asks).answer)
+        (λ i. whether_says (eqb t.count (cut_to w addr len)) (λ x. why (in_short (eqb-false t.count (cut_to w addr len) x)))) (λ h. why (in_window h))
 
-    boot-says : (addr len : ℕ) → line_of (line_in bytes) ≡ line.Boot addr len → HasRow (run_boot (window_of w.e.base (length w.scratch) addr len) asks).answer
+    boot_says : (addr len : ℕ) → line_of (line_in bytes) ≡ line.Boot addr len → HasRow (run_boot (window_of w.e.base (length w.scratch) addr len) asks).answer
     unfolding run_boot
-    boot-says addr len e = window-says addr len (λ x. HasRow (run_boot x asks).answer) (λ i. tt) (λ h. shell-run n (subst (RunWhy g.lent w) (sym e) h))
+    boot_says addr len e = window_says addr len (λ x. HasRow (run_boot x asks).answer) (λ i. tt) (λ h. shell_run n (subst (RunWhy g.lent w) (sym e) h))
 
-    run-says : (x : Line) → line_of (line_in bytes) ≡ x → Lined (LineWhy (tokens_of (line_in bytes))) x → HasRow (run_by g.lent asks x).answer
+    run_says : (x : Line) → line_of (line_in bytes) ≡ x → Lined (LineWhy (tokens_of (line_in bytes))) x → HasRow (run_by g.lent asks x).answer
     unfolding run_erase
-    run-says line.Bad e h = shell-line n h
-    run-says line.Done e h = tt
-    run-says (line.Erase start size) e h =
+    run_says line.Bad e h = shell_line_lem n h
+    run_says line.Done e h = tt
+    run_says (line.Erase start size) e h =
         let t = erasing g.lent start size (dev_of w) in
-        whether-says (eqb t.status 0) (λ x. shell-run n (subst (RunWhy g.lent w) (sym e) (eqb-false t.status 0 x)))
-    run-says (line.Write off len addr) e h = out-says off len addr e
-    run-says (line.Read off len addr) e h = in-says off len addr e
-    run-says (line.Boot addr len) e h = boot-says addr len e
+        whether_says (eqb t.status 0) (λ x. shell_run n (subst (RunWhy g.lent w) (sym e) (eqb-false t.status 0 x)))
+    run_says (line.Write off len addr) e h = out_says off len addr e
+    run_says (line.Read off len addr) e h = in_says off len addr e
+    run_says (line.Boot addr len) e h = boot_says addr len e
 
-    shell-says : HasRow (shell g.lent bytes w).answer
+    shell_says : HasRow (shell g.lent bytes w).answer
     unfolding shell text_of run_line
-    shell-says =
+    shell_says =
         picked (λ (x : Text). HasRow (shell_by g.lent bytes w x).answer)
         (leb 4 (length bytes) && (leb (4 + word_at 4 bytes 0) (length bytes) && is_utf8 (line_in bytes))) (text.Len (word_at 4 bytes 0)) text.Bad
-        (λ e. run-says (line_of (line_in bytes)) refl (line-lined (line_in bytes))) (λ e. bad (and-false _ _ e))
+        (λ e. run_says (line_of (line_in bytes)) refl (line_lined (line_in bytes))) (λ e. bad (and_false _ _ e))
       where
         rest : (leb (4 + word_at 4 bytes 0) (length bytes) ≡ false) ⊎ (is_utf8 (line_in bytes) ≡ false) → Why g c bytes w
-        rest (inl h) = shell-less n (leb-false (4 + word_at 4 bytes 0) (length bytes) h)
-        rest (inr h) = shell-text n h
+        rest (inl h) = shell_less n (leb-false (4 + word_at 4 bytes 0) (length bytes) h)
+        rest (inr h) = shell_text n h
 
         bad : (leb 4 (length bytes) ≡ false) ⊎ ((leb (4 + word_at 4 bytes 0) (length bytes) && is_utf8 (line_in bytes)) ≡ false) → Why g c bytes w
-        bad (inl h) = shell-cut n (leb-false 4 (length bytes) h)
-        bad (inr h) = rest (and-false _ _ h)
+        bad (inl h) = shell_cut n (leb-false 4 (length bytes) h)
+        bad (inr h) = rest (and_false _ _ h)
 
   -- ---- the commands that touch the reply alone
 
@@ -281,7 +281,7 @@ module _ (g : Given) (c : ℕ) (bytes : List ℕ) (w : World) where
     where
       go : (t : List ℕ) → g.table ≡ t → HasRow (table_text t)
       go [] e = table_none n e
-      go (b ∷ s) e = sent-says (b ∷ s) (λ h. table-large n (rw e h))
+      go (b ∷ s) e = sent_says (b ∷ s) (λ h. table_large n (rw e h))
 
   -- the commands before these are another's
   module _ (m : one_of of_scratch c ≡ false) (s : eqb c 0x05 ≡ false) (d : one_of of_storage c ≡ false) where
@@ -290,9 +290,9 @@ module _ (g : Given) (c : ℕ) (bytes : List ℕ) (w : World) where
     Shorts short.Empty = Unit {0}
     Shorts (short.Word x) = Unit {0}
 
-    short-says : Shorts (short_of c w.e)
+    short_says : Shorts (short_of c w.e)
     unfolding short_by short_of one_of
-    short-says =
+    short_says =
         picked Shorts (eqb c 0x08) _ _ (λ _. tt)
         (λ h₁. picked Shorts (eqb c 0x09) _ _ (λ _. tt)
         (λ h₂. picked Shorts (eqb c 0x0A) _ _ (λ _. tt)
@@ -302,9 +302,9 @@ module _ (g : Given) (c : ℕ) (bytes : List ℕ) (w : World) where
         (λ h₆. picked Shorts (eqb c 0x15) _ _ (λ _. tt)
         (λ h₇. picked Shorts (eqb c 0x19) _ _ (λ _. tt) (λ h₈. rw (h₁, h₂, h₃, h₄, h₅, h₆, h₇, h₈)))))))))
 
-    long-says : one_of of_word c ≡ false → HasRow (long_of c w.e g.table)
+    long_says : one_of of_word c ≡ false → HasRow (long_of c w.e g.table)
     unfolding long_by long_of one_of
-    long-says k =
+    long_says k =
         picked HasRow (eqb c 0x00) _ _ (λ _. tt)
         (λ h₁. picked HasRow (eqb c 0x16) _ _ (λ _. tt)
         (λ h₂. picked HasRow (eqb c 0x17) _ _ (λ e. text_says (eqb-true c 0x17 e))
@@ -313,55 +313,55 @@ module _ (g : Given) (c : ℕ) (bytes : List ℕ) (w : World) where
         (none_both of_shell (of_storage ++ of_word ++ of_more) c (rw s)
         (none_both of_storage (of_word ++ of_more) c d (none_both of_word of_more c k (rw (h₁, h₂, h₃, h₄)))))))))
 
-    plain-says : HasRow (plain c w.e g.table)
+    plain_says : HasRow (plain c w.e g.table)
     unfolding plain
-    plain-says = go (short_of c w.e) short-says
+    plain_says = go (short_of c w.e) short_says
       where
         go : (x : Short) → Shorts x → HasRow (plain_by c w.e g.table x)
         go short.Empty h = tt
         go (short.Word x) h = tt
-        go short.Other h = long-says h
+        go short.Other h = long_says h
 
   -- ---- by group
 
-  memory-says : one_of of_scratch c ≡ true → HasRow (memory c bytes w).answer
+  memory_says : one_of of_scratch c ≡ true → HasRow (memory c bytes w).answer
   unfolding memory
-  memory-says h =
+  memory_says h =
       picked (λ (r : Ran). HasRow r.answer) (eqb c 0x02) (wrote_by w (write_of w.e.base w.scratch bytes)) (ran (read_of w.e.base w.scratch bytes) w)
-      (λ e. write-says (eqb-true c 0x02 e)) (λ e. read-says (one_last 0x03 c (one_later 0x02 (0x03 ∷ []) c h e)))
+      (λ e. write_says (eqb-true c 0x02 e)) (λ e. read_says (one_last 0x03 c (one_later 0x02 (0x03 ∷ []) c h e)))
 
-  storing-says : one_of of_storage c ≡ true → HasRow (storing g c bytes w).answer
+  storing_says : one_of of_storage c ≡ true → HasRow (storing g c bytes w).answer
   unfolding storing
-  storing-says h =
+  storing_says h =
       let l = g.lent in
       let e = erase_storage l bytes w in
       let r = cond (eqb c 0x18) (read_fwc l bytes w) e in
       let q = cond (eqb c 0x13) (crc_query l w) r in
       let m = cond (eqb c 0x10) (set_meta l g.lists bytes w) q in
       let T : Ran → Type 0 = λ x. HasRow x.answer in
-      picked T (eqb c 0x0B) (end_upgrade l w) m (λ x. end-says (eqb-true c 0x0B x))
-      (λ h₁. picked T (eqb c 0x10) (set_meta l g.lists bytes w) q (λ x. meta-says (eqb-true c 0x10 x))
-      (λ h₂. picked T (eqb c 0x13) (crc_query l w) r (λ x. crc-says (eqb-true c 0x13 x))
-      (λ h₃. picked T (eqb c 0x18) (read_fwc l bytes w) e (λ x. fwc-says (eqb-true c 0x18 x))
-      (λ h₄. erase-says (one_last 0x1B c (one_later 0x18 _ c (one_later 0x13 _ c (one_later 0x10 _ c (one_later 0x0B _ c h h₁) h₂) h₃) h₄))))))
+      picked T (eqb c 0x0B) (end_upgrade l w) m (λ x. end_says (eqb-true c 0x0B x))
+      (λ h₁. picked T (eqb c 0x10) (set_meta l g.lists bytes w) q (λ x. meta_says (eqb-true c 0x10 x))
+      (λ h₂. picked T (eqb c 0x13) (crc_query l w) r (λ x. crc_says (eqb-true c 0x13 x))
+      (λ h₃. picked T (eqb c 0x18) (read_fwc l bytes w) e (λ x. fwc_says (eqb-true c 0x18 x))
+      (λ h₄. erase_says (one_last 0x1B c (one_later 0x18 _ c (one_later 0x13 _ c (one_later 0x10 _ c (one_later 0x0B _ c h h₁) h₂) h₃) h₄))))))
 
   -- "a refusal or fail reply still needs a reason that these papers name": what any command answers is OK, or has its row
-  pub runs-says : Says (Why g c bytes w) (one_of known c ≡ false) (Large g c bytes w) (runs g c bytes w).answer
+  pub runs_says : Says (Why g c bytes w) (one_of known c ≡ false) (Large g c bytes w) (runs g c bytes w).answer
   unfolding runs group_of
-  runs-says =
+  runs_says =
       let T : Group → Type 0 = λ x. HasRow (runs_by g c bytes w x).answer in
-      picked T (one_of of_scratch c) _ _ memory-says
-      (λ m. picked T (eqb c 0x05) _ _ (λ e. shell-says (eqb-true c 0x05 e))
-      (λ s. picked T (one_of of_storage c) _ _ storing-says (plain-says m s)))
+      picked T (one_of of_scratch c) _ _ memory_says
+      (λ m. picked T (eqb c 0x05) _ _ (λ e. shell_says (eqb-true c 0x05 e))
+      (λ s. picked T (one_of of_storage c) _ _ storing_says (plain_says m s)))
 
   -- "A fail reply is a header with status 1 and no data": a command answers it for one of its reasons
-  pub fail-why : (runs g c bytes w).answer ≡ fail → Why g c bytes w
-  fail-why e = subst HasRow e runs-says
+  pub fail_why : (runs g c bytes w).answer ≡ fail → Why g c bytes w
+  fail_why e = subst HasRow e runs_says
 
   -- "reply data 4,097 to 4,112 bytes, or a table text over 4,096" (1e)
-  pub odd-why : (runs g c bytes w).answer ≡ odd → Large g c bytes w
-  odd-why e = subst HasRow e runs-says
+  pub odd_why : (runs g c bytes w).answer ≡ odd → Large g c bytes w
+  odd_why e = subst HasRow e runs_says
 
   -- "An unsupported command (also 0x01 and 0x0D)": one that 01 does not have
-  pub unsupported-why : (runs g c bytes w).answer ≡ unsupported → one_of known c ≡ false
-  unsupported-why e = subst HasRow e runs-says
+  pub unsupported_why : (runs g c bytes w).answer ≡ unsupported → one_of known c ≡ false
+  unsupported_why e = subst HasRow e runs_says

@@ -33,7 +33,7 @@ use Rattle.promises.specs.Frames.{Between}
 use Rattle.promises.specs.Cuts.{Answered}
 use Rattle.promises.specs.Update.{MetaFrame, SendFrame, Landed, placed_at}
 use Rattle.promises.specs.Queries.{crc, burn, Queries, Replied}
-use Rattle.promises.specs.Promise.{here, promise, promise-queries}
+use Rattle.promises.specs.Promise.{here, promise, promise_queries}
 
 -- ---- the engine, and what went before
 
@@ -65,13 +65,13 @@ unfolding acted_all begins any_of utf8_1 utf8_2 utf8_3 utf8_4 utf8_char first_of
 between = record { len = refl; total = refl; left = refl }
 
 -- one chip call was made, and it failed
-one-call : start.e.store.calls ≡ 1
+one_call : start.e.store.calls ≡ 1
 unfolding acted_all begins any_of utf8_1 utf8_2 utf8_3 utf8_4 utf8_char first_of char_len octets is_utf8 bytes_of le word_at checksum_of header_of accepted parsed parts_of parts total part_ok all lists_ok table_end end_of opens.opened_nor one_of nor_size scratch_ok held_ok in_bounds parts_fit failing able fetched flushes read_out good by_good flushing reading status_by reply_by replied ends is_query pair_of read_fwc group_of storing runs order_of performs execs next_of ripens heads fills gathers want_by turns then_by goes feeds rooms_ok frame_ok said_ok up_ok engine_ok fits opened_nor writes steps commands fails
-one-call = refl
+one_call = refl
 
 quiet : QuietFrom (1 ∷ 0 ∷ []) start.e.store.calls
 unfolding failing
-quiet k h = let m : min k 1 ≡ 1 = omega (arith, one-call) in ap (λ (j : ℕ). ltb 0 (get_or (1 ∷ 0 ∷ []) j 0)) m
+quiet k h = let m : min k 1 ≡ 1 = omega (arith, one_call) in ap (λ (j : ℕ). ltb 0 (get_or (1 ∷ 0 ∷ []) j 0)) m
 
 -- ---- the update
 
@@ -88,9 +88,9 @@ first = asks 0x10 512 ++ metadata
 abbrev second : List ℕ
 second = asks 0x12 3 ++ payload
 
-is-metadata : MetaFrame lends 8192 first
+is_metadata : MetaFrame lends 8192 first
 unfolding header_of bytes_of le word_at checksum_of accepted parsed is_meta same target_of partition_field until lookup parts_of is_utf8 octets char_len first_of utf8_char utf8_1 utf8_2 utf8_3 utf8_4 any_of begins trim trim_start trim_end lead keep blank_len code_point white_space lists_ok total all parts part_ok find wanted
-is-metadata =
+is_metadata =
     record {
       head = asks 0x10 512;
       body = metadata;
@@ -104,9 +104,9 @@ is-metadata =
       found = refl;
     }
 
-is-send : SendFrame payload second
+is_send : SendFrame payload second
 unfolding header_of bytes_of le word_at checksum_of accepted parsed
-is-send = record { head = asks 0x12 3; is = refl; sixteen = refl; status = 0; says = refl }
+is_send = record { head = asks 0x12 3; is = refl; sixteen = refl; status = 0; says = refl }
 
 -- a write that ends within the first header, a read, a write that ends within the second, and one that ends within the payload; then the rest
 abbrev pieces : List Call
@@ -123,7 +123,7 @@ covers = omega (arith, length-replicate {A = ℕ} 32768 255)
 pub example : Answered lends start pieces × Landed payload (placed_at 8192 payload (writes lends start first).w.chip) (writes lends (after_all lends start pieces) rest)
 unfolding header_of bytes_of checksum_of
 example =
-    promise lends room 0x40000000 0 0 accepts acts between quiet 8192 payload first second is-metadata is-send covers pieces rest tt (omega arith) refl
+    promise lends room 0x40000000 0 0 accepts acts between quiet 8192 payload first second is_metadata is_send covers pieces rest tt (omega arith) refl
 
 -- ---- the queries behind it
 
@@ -131,9 +131,9 @@ example =
 abbrev asked : List ℕ
 asked = asks 0x13 0 ++ asks 0x14 0
 
-are-queries : Queries crc (burn ∷ []) asked
+are_queries : Queries crc (burn ∷ []) asked
 unfolding header_of bytes_of le word_at checksum_of accepted parsed
-are-queries = (
+are_queries = (
   asks 0x13 0,
   asks 0x14 0,
   refl,
@@ -146,10 +146,10 @@ abbrev looks : List Call
 looks = read (replicate 64 0) ∷ write (take 21 asked) ∷ []
 
 -- the promise of these
-pub example-queries :
+pub example_queries :
     (let v = (writes lends (after_all lends start pieces) rest).w in
     Answered lends v looks × Replied payload (placed_at 8192 payload (writes lends start first).w.chip) burn (writes lends (after_all lends v looks) (drop 21 asked)))
 unfolding header_of bytes_of checksum_of
-example-queries =
-    promise-queries lends room 0x40000000 0 0 accepts acts between quiet 8192 payload first second is-metadata is-send covers pieces rest tt (omega arith) refl crc (burn ∷ []) asked
-    are-queries looks (drop 21 asked) tt (omega arith) refl
+example_queries =
+    promise_queries lends room 0x40000000 0 0 accepts acts between quiet 8192 payload first second is_metadata is_send covers pieces rest tt (omega arith) refl crc (burn ∷ []) asked
+    are_queries looks (drop 21 asked) tt (omega arith) refl

@@ -39,87 +39,87 @@ fixed d r r' h h' = meet h h'
 -- ---- wire: bytes, crc, header, packet
 
 -- `bytes::u16_at`
-pub u16-at-fixed : (s : List ℕ) (at : ℕ) → Fixes ℕ (λ r. r ≡ word_at 2 s at)
-u16-at-fixed s at = fixed _
+pub u16_at_fixed : (s : List ℕ) (at : ℕ) → Fixes ℕ (λ r. r ≡ word_at 2 s at)
+u16_at_fixed s at = fixed _
 
 -- `bytes::u32_at`
-pub u32-at-fixed : (s : List ℕ) (at : ℕ) → Fixes ℕ (λ r. r ≡ word_at 4 s at)
-u32-at-fixed s at = fixed _
+pub u32_at_fixed : (s : List ℕ) (at : ℕ) → Fixes ℕ (λ r. r ≡ word_at 4 s at)
+u32_at_fixed s at = fixed _
 
 -- `bytes::u64_at`
-pub u64-at-fixed : (s : List ℕ) (at : ℕ) → Fixes ℕ (λ r. r ≡ word_at 8 s at)
-u64-at-fixed s at = fixed _
+pub u64_at_fixed : (s : List ℕ) (at : ℕ) → Fixes ℕ (λ r. r ≡ word_at 8 s at)
+u64_at_fixed s at = fixed _
 
 -- `bytes::le4`
-pub le4-fixed : (x : ℕ) → Fixes (List ℕ) (λ r. r ≡ bytes_of 4 x)
-le4-fixed x = fixed _
+pub le4_fixed : (x : ℕ) → Fixes (List ℕ) (λ r. r ≡ bytes_of 4 x)
+le4_fixed x = fixed _
 
 -- `bytes::le8`
-pub le8-fixed : (v : ℕ) → Fixes (List ℕ) (λ r. r ≡ bytes_of 8 v)
-le8-fixed v = fixed _
+pub le8_fixed : (v : ℕ) → Fixes (List ℕ) (λ r. r ≡ bytes_of 8 v)
+le8_fixed v = fixed _
 
 -- `bytes::put`: what it leaves in the slice
-pub put-fixed : (s : List ℕ) (at : ℕ) (xs : List ℕ) → Fixes (List ℕ) (λ left. left ≡ laid s at xs)
-put-fixed s at xs = fixed _
+pub put_fixed : (s : List ℕ) (at : ℕ) (xs : List ℕ) → Fixes (List ℕ) (λ left. left ≡ laid s at xs)
+put_fixed s at xs = fixed _
 
 -- `crc::crc32_update`
-pub crc32-update-fixed : (crc : ℕ) (s : List ℕ) → Fixes ℕ (λ r. r ≡ crc_update crc s)
-crc32-update-fixed crc s = fixed _
+pub crc32_update_fixed : (crc : ℕ) (s : List ℕ) → Fixes ℕ (λ r. r ≡ crc_update crc s)
+crc32_update_fixed crc s = fixed _
 
 -- `header::checksum`
-pub checksum-fixed : (magic command status len : ℕ) → Fixes ℕ (λ r. r ≡ checksum_of magic command status len)
-checksum-fixed magic command status len = fixed _
+pub checksum_fixed : (magic command status len : ℕ) → Fixes ℕ (λ r. r ≡ checksum_of magic command status len)
+checksum_fixed magic command status len = fixed _
 
 -- `header::build_header`
-pub build-header-fixed : (magic command status len : ℕ) → Fixes (List ℕ) (λ r. r ≡ header_of magic command status len)
-build-header-fixed magic command status len = fixed _
+pub build_header_fixed : (magic command status len : ℕ) → Fixes (List ℕ) (λ r. r ≡ header_of magic command status len)
+build_header_fixed magic command status len = fixed _
 
 -- `header::parse_header`
-pub parse-header-fixed : (frame : List ℕ) → Fixes Header (λ r. r ≡ parsed frame)
-parse-header-fixed frame = fixed _
+pub parse_header_fixed : (frame : List ℕ) → Fixes Header (λ r. r ≡ parsed frame)
+parse_header_fixed frame = fixed _
 
 -- `packet::parse_cbw`
-pub parse-cbw-fixed : (packet : List ℕ) → Fixes Cbw (λ r. r ≡ cbw_of packet)
-parse-cbw-fixed packet = fixed _
+pub parse_cbw_fixed : (packet : List ℕ) → Fixes Cbw (λ r. r ≡ cbw_of packet)
+parse_cbw_fixed packet = fixed _
 
 -- `packet::csw`
-pub csw-fixed : (tag status residue : ℕ) → Fixes (List ℕ) (λ r. r ≡ csw_of tag status residue)
-csw-fixed tag status residue = fixed _
+pub csw_fixed : (tag status residue : ℕ) → Fixes (List ℕ) (λ r. r ≡ csw_of tag status residue)
+csw_fixed tag status residue = fixed _
 
 -- ---- text: number, token, trim, utf8
 
 -- `number::parse`
-pub parse-fixed : (token : List ℕ) → Fixes Number (λ r. r ≡ number_in token)
-parse-fixed token = fixed _
+pub parse_fixed : (token : List ℕ) → Fixes Number (λ r. r ≡ number_in token)
+parse_fixed token = fixed _
 
 -- `token::token`
-pub token-fixed : (line : List ℕ) (at : ℕ) → Fixes (List ℕ) (λ r. r ≡ until 0x20 (drop at line))
-token-fixed line at = fixed _
+pub token_fixed : (line : List ℕ) (at : ℕ) → Fixes (List ℕ) (λ r. r ≡ until 0x20 (drop at line))
+token_fixed line at = fixed _
 
 -- `token::place_after`
-pub place-after-fixed : (line : List ℕ) (at : ℕ) → Fixes Place (λ r. r ≡ place_after line at)
-place-after-fixed line at = fixed _
+pub place_after_fixed : (line : List ℕ) (at : ℕ) → Fixes Place (λ r. r ≡ place_after line at)
+place_after_fixed line at = fixed _
 
 -- `token::before_semicolon`
-pub before-semicolon-fixed : (s : List ℕ) → Fixes (List ℕ) (λ r. r ≡ until 0x3B s)
-before-semicolon-fixed s = fixed _
+pub before_semicolon_fixed : (s : List ℕ) → Fixes (List ℕ) (λ r. r ≡ until 0x3B s)
+before_semicolon_fixed s = fixed _
 
 -- `token::before_zero`
-pub before-zero-fixed : (s : List ℕ) → Fixes (List ℕ) (λ r. r ≡ until 0 s)
-before-zero-fixed s = fixed _
+pub before_zero_fixed : (s : List ℕ) → Fixes (List ℕ) (λ r. r ≡ until 0 s)
+before_zero_fixed s = fixed _
 
 -- `token::starts_with`
-pub starts-with-fixed : (s front : List ℕ) → Fixes Bool (λ r. r ≡ starts_with s front)
-starts-with-fixed s front = fixed _
+pub starts_with_fixed : (s front : List ℕ) → Fixes Bool (λ r. r ≡ starts_with s front)
+starts_with_fixed s front = fixed _
 
 -- `token::same`
-pub same-fixed : (a b : List ℕ) → Fixes Bool (λ r. r ≡ same a b)
-same-fixed a b = fixed _
+pub same_fixed : (a b : List ℕ) → Fixes Bool (λ r. r ≡ same a b)
+same_fixed a b = fixed _
 
 -- `trim::trim`
-pub trim-fixed : (s : List ℕ) → Fixes (List ℕ) (λ r. r ≡ trim s)
-trim-fixed s = fixed _
+pub trim_fixed : (s : List ℕ) → Fixes (List ℕ) (λ r. r ≡ trim s)
+trim_fixed s = fixed _
 
 -- `utf8::is_utf8`
-pub is-utf8-fixed : (s : List ℕ) → Fixes Bool (λ r. r ≡ is_utf8 s)
-is-utf8-fixed s = fixed _
+pub is_utf8_fixed : (s : List ℕ) → Fixes Bool (λ r. r ≡ is_utf8 s)
+is_utf8_fixed s = fixed _

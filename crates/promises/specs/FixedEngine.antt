@@ -48,130 +48,130 @@ stepped_of s =
 -- ---- engine: api
 
 -- `api::numbers_ok`
-pub numbers-ok-fixed : (request reply : ℕ) (frame : Frame) (said : Said) (target written left : ℕ)
+pub numbers_ok_fixed : (request reply : ℕ) (frame : Frame) (said : Said) (target written left : ℕ)
     → Fixes Bool (λ r. r ≡ (rooms_ok request reply && (frame_ok frame && (said_ok said && bounds_ok target written left))))
-numbers-ok-fixed request reply frame said target written left = fixed _
+numbers_ok_fixed request reply frame said target written left = fixed _
 
 -- `api::all_ok`: the contract speaks of every list of failing calls and every table text, neither of which is lent
-pub all-ok-fixed : (marks : List ℕ) (l : Lists) (w : World) → Fixes Bool (λ r. (f t : List ℕ) → r ≡ fits (given (lent f marks) l t) w)
-all-ok-fixed marks l w r r' h h' = meet (h [] []) (h' [] [])
+pub all_ok_fixed : (marks : List ℕ) (l : Lists) (w : World) → Fixes Bool (λ r. (f t : List ℕ) → r ≡ fits (given (lent f marks) l t) w)
+all_ok_fixed marks l w r r' h h' = meet (h [] []) (h' [] [])
 
 -- `api::open_nor`
-pub open-nor-fixed : (request reply chip buffer : List ℕ) (l : Lists) (base : ℕ) (scratch : List ℕ) (stage device : ℕ)
+pub open_nor_fixed : (request reply chip buffer : List ℕ) (l : Lists) (base : ℕ) (scratch : List ℕ) (stage device : ℕ)
     → Fixes Opening (λ r. r ≡ opened_nor (length request) (length reply) (length chip) (length buffer) l base (length scratch) stage device)
-open-nor-fixed request reply chip buffer l base scratch stage device = fixed _
+open_nor_fixed request reply chip buffer l base scratch stage device = fixed _
 
 -- `api::open_nand`
-pub open-nand-fixed : (request reply chip : List ℕ) (page pages blocks : ℕ) (marks : List ℕ) (capacity : ℕ) (l : Lists) (base : ℕ) (scratch : List ℕ) (stage device : ℕ)
+pub open_nand_fixed : (request reply chip : List ℕ) (page pages blocks : ℕ) (marks : List ℕ) (capacity : ℕ) (l : Lists) (base : ℕ) (scratch : List ℕ) (stage device : ℕ)
     → Fixes Opening (λ r. r ≡ opened_nand (length request) (length reply) (length chip) page pages blocks (length marks) capacity l base (length scratch) stage device)
-open-nand-fixed request reply chip page pages blocks marks capacity l base scratch stage device = fixed _
+open_nand_fixed request reply chip page pages blocks marks capacity l base scratch stage device = fixed _
 
 -- `api::write`, a byte run: status and record, and what is left in request, reply, chip, buffer and scratch
-pub write-fixed : (g : Given) (w : World) (bytes : List ℕ) (r r' : Did) (q q' p p' c c' b b' x x' : List ℕ)
+pub write_fixed : (g : Given) (w : World) (bytes : List ℕ) (r r' : Did) (q q' p p' c c' b b' x x' : List ℕ)
     → out r q p c b x ≡ writes g w bytes → out r' q' p' c' b' x' ≡ writes g w bytes
     → (r ≡ r') × (q ≡ q') × (p ≡ p') × (c ≡ c') × (b ≡ b') × (x ≡ x')
-write-fixed g w bytes r r' q q' p p' c c' b b' x x' h h' =
+write_fixed g w bytes r r' q q' p p' c c' b b' x x' h h' =
     let e = meet h h' in
     (ap did_of e, ap (λ o. o.w.request) e, ap (λ o. o.w.reply) e, ap (λ o. o.w.chip) e, ap (λ o. o.w.buffer) e, ap (λ o. o.w.scratch) e)
 
 -- `api::read`: count or refusal and record, and what is left in the room
-pub read-fixed : (marks : List ℕ) (l : Lists) (w : World) (room : List ℕ) (r r' : Taken) (m m' : List ℕ)
+pub read_fixed : (marks : List ℕ) (l : Lists) (w : World) (room : List ℕ) (r r' : Taken) (m m' : List ℕ)
     → ((f t : List ℕ) → took r m ≡ reads (given (lent f marks) l t) w room) → ((f t : List ℕ) → took r' m' ≡ reads (given (lent f marks) l t) w room)
     → (r ≡ r') × (m ≡ m')
-read-fixed marks l w room r r' m m' h h' = let e = meet (h [] []) (h' [] []) in (ap taken_of e, ap (λ o. o.room) e)
+read_fixed marks l w room r r' m m' h h' = let e = meet (h [] []) (h' [] []) in (ap taken_of e, ap (λ o. o.room) e)
 
 -- `api::cleared`
-pub cleared-fixed : (e : Engine) → Fixes Engine (λ r. r ≡ cleared e)
-cleared-fixed e = fixed _
+pub cleared_fixed : (e : Engine) → Fixes Engine (λ r. r ≡ cleared e)
+cleared_fixed e = fixed _
 
 -- `api::is_upgrading`
-pub is-upgrading-fixed : (e : Engine) → Fixes Bool (λ r. r ≡ e.upgrading)
-is-upgrading-fixed e = fixed _
+pub is_upgrading_fixed : (e : Engine) → Fixes Bool (λ r. r ≡ e.upgrading)
+is_upgrading_fixed e = fixed _
 
 -- `api::is_asked`
-pub is-asked-fixed : (e : Engine) → Fixes Bool (λ r. r ≡ e.asked)
-is-asked-fixed e = fixed _
+pub is_asked_fixed : (e : Engine) → Fixes Bool (λ r. r ≡ e.asked)
+is_asked_fixed e = fixed _
 
 -- ---- engine: bus, on the caller's own record
 
 -- `bus::reset`: the record
-pub reset-fixed : (e : Engine) → Fixes Engine (λ left. left ≡ cleared e)
-reset-fixed e = fixed _
+pub reset_fixed : (e : Engine) → Fixes Engine (λ left. left ≡ cleared e)
+reset_fixed e = fixed _
 
 -- `bus::host_upgrading`: the answer and the record
-pub host-upgrading-fixed : (e : Engine) (r r' : Bool) (x x' : Engine) → (r ≡ e.upgrading) × (x ≡ e) → (r' ≡ e.upgrading) × (x' ≡ e) → (r ≡ r') × (x ≡ x')
-host-upgrading-fixed e r r' x x' h h' = (meet h.0 h'.0, meet h.1 h'.1)
+pub host_upgrading_fixed : (e : Engine) (r r' : Bool) (x x' : Engine) → (r ≡ e.upgrading) × (x ≡ e) → (r' ≡ e.upgrading) × (x' ≡ e) → (r ≡ r') × (x ≡ x')
+host_upgrading_fixed e r r' x x' h h' = (meet h.0 h'.0, meet h.1 h'.1)
 
 -- `bus::reset_requested`: the answer and the record
-pub reset-requested-fixed : (e : Engine) (r r' : Bool) (x x' : Engine) → (r ≡ e.asked) × (x ≡ e) → (r' ≡ e.asked) × (x' ≡ e) → (r ≡ r') × (x ≡ x')
-reset-requested-fixed e r r' x x' h h' = (meet h.0 h'.0, meet h.1 h'.1)
+pub reset_requested_fixed : (e : Engine) (r r' : Bool) (x x' : Engine) → (r ≡ e.asked) × (x ≡ e) → (r' ≡ e.asked) × (x' ≡ e) → (r ≡ r') × (x ≡ x')
+reset_requested_fixed e r r' x x' h h' = (meet h.0 h'.0, meet h.1 h'.1)
 
 -- ---- engine: command
 
 -- `command::is_query`
-pub is-query-fixed : (command : ℕ) → Fixes Bool (λ r. r ≡ is_query command)
-is-query-fixed command = fixed _
+pub is_query_fixed : (command : ℕ) → Fixes Bool (λ r. r ≡ is_query command)
+is_query_fixed command = fixed _
 
 -- `command::pair_of`
-pub pair-of-fixed : (payload : List ℕ) → Fixes Pair (λ r. r ≡ pair_of payload)
-pair-of-fixed payload = fixed _
+pub pair_of_fixed : (payload : List ℕ) → Fixes Pair (λ r. r ≡ pair_of payload)
+pair_of_fixed payload = fixed _
 
 -- ---- engine: shell
 
 -- `shell::text_len`
-pub text-len-fixed : (payload : List ℕ) → Fixes Text (λ r. r ≡ text_of payload)
-text-len-fixed payload = fixed _
+pub text_len_fixed : (payload : List ℕ) → Fixes Text (λ r. r ≡ text_of payload)
+text_len_fixed payload = fixed _
 
 -- `shell::is_write`
-pub is-write-fixed : (line : List ℕ) → Fixes Bool (λ r. r ≡ is_write line)
-is-write-fixed line = fixed _
+pub is_write_fixed : (line : List ℕ) → Fixes Bool (λ r. r ≡ is_write line)
+is_write_fixed line = fixed _
 
 -- `shell::is_reset`
-pub is-reset-fixed : (line : List ℕ) → Fixes Bool (λ r. r ≡ is_reset line)
-is-reset-fixed line = fixed _
+pub is_reset_fixed : (line : List ℕ) → Fixes Bool (λ r. r ≡ is_reset line)
+is_reset_fixed line = fixed _
 
 -- `shell::parse`
-pub parse-fixed : (line : List ℕ) → Fixes Line (λ r. r ≡ line_of line)
-parse-fixed line = fixed _
+pub parse_fixed : (line : List ℕ) → Fixes Line (λ r. r ≡ line_of line)
+parse_fixed line = fixed _
 
 -- `shell::window_of`
-pub window-of-fixed : (base size addr len : ℕ) → Fixes Window (λ r. r ≡ window_of base size addr len)
-window-of-fixed base size addr len = fixed _
+pub window_of_fixed : (base size addr len : ℕ) → Fixes Window (λ r. r ≡ window_of base size addr len)
+window_of_fixed base size addr len = fixed _
 
 -- `shell::boot_table`: what it leaves in the slice
-pub boot-table-fixed : (s : List ℕ) (base place block capacity : ℕ) → Fixes (List ℕ) (λ left. left ≡ boot_table base place block capacity s)
-boot-table-fixed s base place block capacity = fixed _
+pub boot_table_fixed : (s : List ℕ) (base place block capacity : ℕ) → Fixes (List ℕ) (λ left. left ≡ boot_table base place block capacity s)
+boot_table_fixed s base place block capacity = fixed _
 
 -- ---- engine: short
 
 -- `short::alone_of`
-pub alone-of-fixed : (bytes : List ℕ) → Fixes Alone (λ r. r ≡ alone_of bytes)
-alone-of-fixed bytes = fixed _
+pub alone_of_fixed : (bytes : List ℕ) → Fixes Alone (λ r. r ≡ alone_of bytes)
+alone_of_fixed bytes = fixed _
 
 -- `short::answer`: status and length, and what is left in the reply room
-pub answer-fixed : (base burn run : ℕ) (store : Store) (command : ℕ) (table reply : List ℕ) (r r' : Answered) (p p' : List ℕ)
+pub answer_fixed : (base burn run : ℕ) (store : Store) (command : ℕ) (table reply : List ℕ) (r r' : Answered) (p p' : List ℕ)
     → answered r p ≡ answer_of command (asking base burn run store) table reply → answered r' p' ≡ answer_of command (asking base burn run store) table reply
     → (r ≡ r') × (p ≡ p')
-answer-fixed base burn run store command table reply r r' p p' h h' = let e = meet h h' in (ap answered_of e, ap (λ a. a.reply) e)
+answer_fixed base burn run store command table reply r r' p p' h h' = let e = meet h h' in (ap answered_of e, ap (λ a. a.reply) e)
 
 -- ---- engine: stream
 
 -- `stream::burn_by`
-pub burn-by-fixed : (old count n : ℕ) → Fixes ℕ (λ r. r ≡ burn_by old count n)
-burn-by-fixed old count n = fixed _
+pub burn_by_fixed : (old count n : ℕ) → Fixes ℕ (λ r. r ≡ burn_by old count n)
+burn_by_fixed old count n = fixed _
 
 -- ---- transport
 
 -- `port::start`
-pub start-fixed : Fixes Port (λ r. r ≡ idle)
-start-fixed = fixed _
+pub start_fixed : Fixes Port (λ r. r ≡ idle)
+start_fixed = fixed _
 
 -- `step::step`, a packet: number, both states, what is sent with status and residue, and what is left in request, reply, chip, buffer,
 -- scratch and the room of sent packets
-pub step-fixed : (g : Given) (port : Port) (w : World) (sent packet : List ℕ) (r r' : Stepped) (q q' p p' c c' b b' x x' m m' : List ℕ)
+pub step_fixed : (g : Given) (port : Port) (w : World) (sent packet : List ℕ) (r r' : Stepped) (q q' p p' c c' b b' x x' m m' : List ℕ)
     → stepped r q p c b x m ≡ steps g port w sent packet → stepped r' q' p' c' b' x' m' ≡ steps g port w sent packet
     → (r ≡ r') × (q ≡ q') × (p ≡ p') × (c ≡ c') × (b ≡ b') × (x ≡ x') × (m ≡ m')
-step-fixed g port w sent packet r r' q q' p p' c c' b b' x x' m m' h h' =
+step_fixed g port w sent packet r r' q q' p p' c c' b b' x x' m m' h h' =
     let e = meet h h' in (
       ap stepped_of e,
       ap (λ s. s.w.request) e,

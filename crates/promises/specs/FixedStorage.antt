@@ -18,74 +18,74 @@ use Rattle.promises.specs.Fixed.{meet, Fixes, fixed}
 -- ---- chip
 
 -- `chip::fill`: what it leaves in the slice
-pub fill-fixed : (s : List ℕ) (v : ℕ) → Fixes (List ℕ) (λ left. left ≡ replicate (length s) v)
-fill-fixed s v = fixed _
+pub fill_fixed : (s : List ℕ) (v : ℕ) → Fixes (List ℕ) (λ left. left ≡ replicate (length s) v)
+fill_fixed s v = fixed _
 
 -- ---- open
 
 -- `open::geometry_ok`
-pub geometry-ok-fixed : (page pages blocks : ℕ) → Fixes Bool (λ r. r ≡ geometry_ok page pages blocks)
-geometry-ok-fixed page pages blocks = fixed _
+pub geometry_ok_fixed : (page pages blocks : ℕ) → Fixes Bool (λ r. r ≡ geometry_ok page pages blocks)
+geometry_ok_fixed page pages blocks = fixed _
 
 -- `open::page_shift`
-pub page-shift-fixed : (page : ℕ) → Fixes ℕ (λ r. r ≡ shift_of page)
-page-shift-fixed page = fixed _
+pub page_shift_fixed : (page : ℕ) → Fixes ℕ (λ r. r ≡ shift_of page)
+page_shift_fixed page = fixed _
 
 -- `open::scratch_ok`
-pub scratch-ok-fixed : (base n : ℕ) → Fixes Bool (λ r. r ≡ scratch_ok base n)
-scratch-ok-fixed base n = fixed _
+pub scratch_ok_fixed : (base n : ℕ) → Fixes Bool (λ r. r ≡ scratch_ok base n)
+scratch_ok_fixed base n = fixed _
 
 -- `open::open_nor`
-pub open-nor-fixed : (chip buffer : List ℕ) (l : Lists) (base : ℕ) (scratch : List ℕ) (stage device : ℕ)
+pub open_nor_fixed : (chip buffer : List ℕ) (l : Lists) (base : ℕ) (scratch : List ℕ) (stage device : ℕ)
     → Fixes Opened (λ r. r ≡ opened_nor (length chip) (length buffer) l base (length scratch) stage device)
-open-nor-fixed chip buffer l base scratch stage device = fixed _
+open_nor_fixed chip buffer l base scratch stage device = fixed _
 
 -- `open::open_nand`
-pub open-nand-fixed : (chip : List ℕ) (page pages blocks : ℕ) (marks : List ℕ) (capacity : ℕ) (l : Lists) (base : ℕ) (scratch : List ℕ) (stage device : ℕ)
+pub open_nand_fixed : (chip : List ℕ) (page pages blocks : ℕ) (marks : List ℕ) (capacity : ℕ) (l : Lists) (base : ℕ) (scratch : List ℕ) (stage device : ℕ)
     → Fixes Opened (λ r. r ≡ opened_nand (length chip) page pages blocks (length marks) capacity l base (length scratch) stage device)
-open-nand-fixed chip page pages blocks marks capacity l base scratch stage device = fixed _
+open_nand_fixed chip page pages blocks marks capacity l base scratch stage device = fixed _
 
 -- `open::fits`
-pub fits-fixed : (s : Store) (chip marks buffer : ℕ) → Fixes Bool (λ r. r ≡ (in_bounds s && parts_fit s chip marks buffer))
-fits-fixed s chip marks buffer = fixed _
+pub fits_fixed : (s : Store) (chip marks buffer : ℕ) → Fixes Bool (λ r. r ≡ (in_bounds s && parts_fit s chip marks buffer))
+fits_fixed s chip marks buffer = fixed _
 
 -- `open::nor_fits`
-pub nor-fits-fixed : (capacity : ℕ) (held : Bool) (at chip buffer : ℕ) → Fixes Bool (λ r. r ≡ nor_fits capacity held at chip buffer)
-nor-fits-fixed capacity held at chip buffer = fixed _
+pub nor_fits_fixed : (capacity : ℕ) (held : Bool) (at chip buffer : ℕ) → Fixes Bool (λ r. r ≡ nor_fits capacity held at chip buffer)
+nor_fits_fixed capacity held at chip buffer = fixed _
 
 -- `open::is_nand`
-pub is-nand-fixed : (s : Store) → Fixes Bool (λ r. r ≡ is_nand s)
-is-nand-fixed s = fixed _
+pub is_nand_fixed : (s : Store) → Fixes Bool (λ r. r ≡ is_nand s)
+is_nand_fixed s = fixed _
 
 -- `open::block_size`
-pub block-size-fixed : (s : Store) → Fixes ℕ (λ r. r ≡ block_size_of s)
-block-size-fixed s = fixed _
+pub block_size_fixed : (s : Store) → Fixes ℕ (λ r. r ≡ block_size_of s)
+block_size_fixed s = fixed _
 
 -- `open::capacity`
-pub capacity-fixed : (s : Store) → Fixes ℕ (λ r. r ≡ s.shape.capacity)
-capacity-fixed s = fixed _
+pub capacity_fixed : (s : Store) → Fixes ℕ (λ r. r ≡ s.shape.capacity)
+capacity_fixed s = fixed _
 
 -- `open::boot_stage`
-pub boot-stage-fixed : (s : Store) → Fixes ℕ (λ r. r ≡ s.shape.stage)
-boot-stage-fixed s = fixed _
+pub boot_stage_fixed : (s : Store) → Fixes ℕ (λ r. r ≡ s.shape.stage)
+boot_stage_fixed s = fixed _
 
 -- `open::device_id`
-pub device-id-fixed : (s : Store) → Fixes ℕ (λ r. r ≡ s.shape.device)
-device-id-fixed s = fixed _
+pub device_id_fixed : (s : Store) → Fixes ℕ (λ r. r ≡ s.shape.device)
+device_id_fixed s = fixed _
 
 -- ---- partition
 
 -- `partition::lists_ok`
-pub lists-ok-fixed : (l : Lists) → Fixes Bool (λ r. r ≡ lists_ok l)
-lists-ok-fixed l = fixed _
+pub lists_ok_fixed : (l : Lists) → Fixes Bool (λ r. r ≡ lists_ok l)
+lists_ok_fixed l = fixed _
 
 -- `partition::table_end`
-pub table-end-fixed : (l : Lists) → Fixes ℕ (λ r. r ≡ end_of l)
-table-end-fixed l = fixed _
+pub table_end_fixed : (l : Lists) → Fixes ℕ (λ r. r ≡ end_of l)
+table_end_fixed l = fixed _
 
 -- `partition::lookup`
-pub lookup-fixed : (l : Lists) (name : List ℕ) → Fixes Found (λ r. r ≡ lookup l name)
-lookup-fixed l name = fixed _
+pub lookup_fixed : (l : Lists) (name : List ℕ) → Fixes Found (λ r. r ≡ lookup l name)
+lookup_fixed l name = fixed _
 
 -- ---- the calls: what is told has the whole answer in it
 
@@ -99,37 +99,37 @@ tells r c b = told r.status r.count (dev r.store c b)
 -- c and b are the chip and the buffer that a call was lent, k and h those that it leaves
 module _ (l : Lent) (s : Store) (c b : List ℕ) (r r' : Answer) (k k' : List ℕ) where
   -- two that tell the same have the same answer and chip
-  told-parts : {h h' : List ℕ} → tells r k h ≡ tells r' k' h' → (r ≡ r') × (k ≡ k') × (h ≡ h')
-  told-parts e = (ap answer_of e, ap (λ t. t.dev.chip) e, ap (λ t. t.dev.buf) e)
+  told_parts : {h h' : List ℕ} → tells r k h ≡ tells r' k' h' → (r ≡ r') × (k ≡ k') × (h ≡ h')
+  told_parts e = (ap answer_of e, ap (λ t. t.dev.chip) e, ap (λ t. t.dev.buf) e)
 
   seen_parts : {h h' m m' : List ℕ} → seen (tells r k h) m ≡ seen (tells r' k' h') m' → (r ≡ r') × (k ≡ k') × (m ≡ m')
   seen_parts e = (ap (λ v. answer_of v.told) e, ap (λ v. v.told.dev.chip) e, ap (λ v. v.room) e)
 
   -- `store::flush`
-  pub flush-fixed : tells r k b ≡ flushing l (dev s c b) → tells r' k' b ≡ flushing l (dev s c b) → (r ≡ r') × (k ≡ k')
-  flush-fixed e e' = let p = told-parts (meet e e') in (p.0, p.1)
+  pub flush_fixed : tells r k b ≡ flushing l (dev s c b) → tells r' k' b ≡ flushing l (dev s c b) → (r ≡ r') × (k ≡ k')
+  flush_fixed e e' = let p = told_parts (meet e e') in (p.0, p.1)
 
   -- `store::erase`
-  pub erase-fixed : (start size : ℕ) → tells r k b ≡ erasing l start size (dev s c b) → tells r' k' b ≡ erasing l start size (dev s c b) → (r ≡ r') × (k ≡ k')
-  erase-fixed start size e e' = let p = told-parts (meet e e') in (p.0, p.1)
+  pub erase_fixed : (start size : ℕ) → tells r k b ≡ erasing l start size (dev s c b) → tells r' k' b ≡ erasing l start size (dev s c b) → (r ≡ r') × (k ≡ k')
+  erase_fixed start size e e' = let p = told_parts (meet e e') in (p.0, p.1)
 
   -- `store::write`
-  pub write-fixed : (offset : ℕ) (bytes h h' : List ℕ) → tells r k h ≡ writing l offset bytes (dev s c b) → tells r' k' h' ≡ writing l offset bytes (dev s c b)
+  pub write_fixed : (offset : ℕ) (bytes h h' : List ℕ) → tells r k h ≡ writing l offset bytes (dev s c b) → tells r' k' h' ≡ writing l offset bytes (dev s c b)
       → (r ≡ r') × (k ≡ k') × (h ≡ h')
-  write-fixed offset bytes h h' e e' = told-parts (meet e e')
+  write_fixed offset bytes h h' e e' = told_parts (meet e e')
 
   -- `store::read`
-  pub read-fixed : (offset : ℕ) (room m m' : List ℕ) → seen (tells r k b) m ≡ reading l offset room (dev s c b) → seen (tells r' k' b) m' ≡ reading l offset room (dev s c b)
+  pub read_fixed : (offset : ℕ) (room m m' : List ℕ) → seen (tells r k b) m ≡ reading l offset room (dev s c b) → seen (tells r' k' b) m' ≡ reading l offset room (dev s c b)
       → (r ≡ r') × (k ≡ k') × (m ≡ m')
-  read-fixed offset room m m' e e' = seen_parts (meet e e')
+  read_fixed offset room m m' e e' = seen_parts (meet e e')
 
   -- `scratch::write_from_scratch`
-  pub write-from-scratch-fixed : (scratch : List ℕ) (offset place len : ℕ) (h h' : List ℕ) → tells r k h ≡ from_scratch l offset place len scratch (dev s c b)
+  pub write_from_scratch_fixed : (scratch : List ℕ) (offset place len : ℕ) (h h' : List ℕ) → tells r k h ≡ from_scratch l offset place len scratch (dev s c b)
       → tells r' k' h' ≡ from_scratch l offset place len scratch (dev s c b) → (r ≡ r') × (k ≡ k') × (h ≡ h')
-  write-from-scratch-fixed scratch offset place len h h' e e' = told-parts (meet e e')
+  write_from_scratch_fixed scratch offset place len h h' e e' = told_parts (meet e e')
 
   -- `scratch::read_into_scratch`: m is what it leaves of scratch
-  pub read-into-scratch-fixed : (scratch : List ℕ) (offset place len : ℕ) (m m' : List ℕ)
+  pub read_into_scratch_fixed : (scratch : List ℕ) (offset place len : ℕ) (m m' : List ℕ)
       → seen (tells r k b) m ≡ into_scratch l offset place len scratch (dev s c b) → seen (tells r' k' b) m' ≡ into_scratch l offset place len scratch (dev s c b)
       → (r ≡ r') × (k ≡ k') × (m ≡ m')
-  read-into-scratch-fixed scratch offset place len m m' e e' = seen_parts (meet e e')
+  read_into_scratch_fixed scratch offset place len m m' e e' = seen_parts (meet e e')

@@ -4,13 +4,13 @@
 -- that returns 1 leaves an engine between frames, from whatever state it began; a reset and an opening leave one too. From there
 -- the first sixteen bytes written are the header that is judged: they are laid at the front of the request room, and a header says
 -- what its sixteen bytes say (Front.antt). One that is refused ends the write at once, with the request emptied and nothing else done.
---   `one-between`, `reset-between`, `nor-between`, `nand-between`   what puts the engine between frames; `read_between`, a read leaves it there
---   `header-judged`, `header-gathers`   from there sixteen bytes are judged, whatever is in the request room, and fewer are gathered
---   `one-judged`, `reset-judged`        so of the write behind one that returned 1, and behind a reset
---   `refused-means`, `means-refused`    the headers that are refused: those of 1a and 1b, and no others
---   `refused-keeps`, `refused-spelled`  a refused header, some of it gathered before: only the request changes
---   `refused-behind`, `behind-spelled`  the same with whole frames before it in the call
---   `refused-cut`    the same with the header cut across writes anyhow and reads between: nothing changed since its first byte
+--   `one_between`, `reset_between`, `nor_between`, `nand_between`   what puts the engine between frames; `read_between`, a read leaves it there
+--   `header_judged`, `header_gathers`   from there sixteen bytes are judged, whatever is in the request room, and fewer are gathered
+--   `one_judged`, `reset_judged`        so of the write behind one that returned 1, and behind a reset
+--   `refused_means`, `means_refused`    the headers that are refused: those of 1a and 1b, and no others
+--   `refused_keeps`, `refused_spelled`  a refused header, some of it gathered before: only the request changes
+--   `refused_behind`, `behind_spelled`  the same with whole frames before it in the call
+--   `refused_cut`    the same with the header cut across writes anyhow and reads between: nothing changed since its first byte
 use Rattle.std.specs.Prelude.{◌≡◌, Bool, ◌⊎◌, leb, ltb, length, get_or, replicate}
 use Rattle.std.proofs.Math.Path.{refl, sym, ap, subst}
 use Rattle.std.proofs.Common.{◌∙◌, inl, inr, add-zero, arith, drop_of_length-le, length-take-le, take_all, take_at}
@@ -65,12 +65,12 @@ use Rattle.engine.specs.Frame.{next_by, next_of, refuses, framed, ripens, headed
 use Rattle.engine.specs.Feed.{want_by, turns, cut_of, then_by, goes, feeds}
 use Rattle.engine.specs.declared.api.Opening.{Opening}
 use Rattle.engine.specs.Api.{rooms_ok, fits, fresh, no_store, refused, opened_by, opened_nor, opened_nand, writes, reads, read_by, Read, cleared}
-use Rattle.engine.proofs.Tidies.{runs-tidy}
-use Rattle.engine.proofs.Frames.{fills-more, fills-head}
-use Rattle.engine.proofs.Feeds.{feed-step, feed-nil, then-go, then-stop, turn-frame}
-use Rattle.engine_laws.specs.Bounds.{in_bounds, write-feeds, write-fits, read_fits, reset-fits, Call, write, read, reset, after_all}
-use Rattle.engine_laws.specs.Cut.{write-cut-unaimed}
-use Rattle.engine_laws.specs.Front.{gathered-header}
+use Rattle.engine.proofs.Tidies.{runs_tidy}
+use Rattle.engine.proofs.Frames.{fills_more, fills_head}
+use Rattle.engine.proofs.Feeds.{feed_step, feed_nil, then_go, then_stop, turn_frame}
+use Rattle.engine_laws.specs.Bounds.{in_bounds, write_feeds, write_fits, read_fits, reset_fits, Call, write, read, reset, after_all}
+use Rattle.engine_laws.specs.Cut.{write_cut_unaimed}
+use Rattle.engine_laws.specs.Front.{gathered_header}
 
 -- ---- between frames
 
@@ -81,31 +81,31 @@ pub record Between (e : Engine) : Type 0 where
   pub left : e.up.left ≡ 0
 
 -- an opened engine is between frames
-pub opening-between : (base : ℕ) (s : Store) → Between (fresh base s)
-opening-between base s = record { len = refl; total = refl; left = refl }
+pub opening_between : (base : ℕ) (s : Store) → Between (fresh base s)
+opening_between base s = record { len = refl; total = refl; left = refl }
 
 -- so is what every opening gives, accepted or refused
-opened-between : (base : ℕ) (o : Opened) → Between (opened_by base o).e
-opened-between base (opened.Ready s) = opening-between base s
-opened-between base (opened.Refused n) = opening-between 0 no_store
+opened_between : (base : ℕ) (o : Opened) → Between (opened_by base o).e
+opened_between base (opened.Ready s) = opening_between base s
+opened_between base (opened.Refused n) = opening_between 0 no_store
 
 module _ (request reply chip : ℕ) (l : Lists) (base scratch stage device : ℕ) where
-  pub nor-between : (buffer : ℕ) → Between (opened_nor request reply chip buffer l base scratch stage device).e
+  pub nor_between : (buffer : ℕ) → Between (opened_nor request reply chip buffer l base scratch stage device).e
   unfolding opened_nor
-  nor-between buffer =
+  nor_between buffer =
       either (λ (o : Opening). Between o.e) (rooms_ok request reply) (opened_by base (opens.opened_nor chip buffer l base scratch stage device)) (refused 9)
-      (opened-between base (opens.opened_nor chip buffer l base scratch stage device)) (opening-between 0 no_store)
+      (opened_between base (opens.opened_nor chip buffer l base scratch stage device)) (opening_between 0 no_store)
 
-  pub nand-between : (page pages blocks marks capacity : ℕ)
+  pub nand_between : (page pages blocks marks capacity : ℕ)
       → Between (opened_nand request reply chip page pages blocks marks capacity l base scratch stage device).e
   unfolding opened_nand
-  nand-between page pages blocks marks capacity =
+  nand_between page pages blocks marks capacity =
       let o = opens.opened_nand chip page pages blocks marks capacity l base scratch stage device in
-      either (λ (o : Opening). Between o.e) (rooms_ok request reply) (opened_by base o) (refused 9) (opened-between base o) (opening-between 0 no_store)
+      either (λ (o : Opening). Between o.e) (rooms_ok request reply) (opened_by base o) (refused 9) (opened_between base o) (opening_between 0 no_store)
 
 -- demand 3: 'a reset puts the engine between frames'
-pub reset-between : (e : Engine) → Between (cleared e)
-reset-between e = record { len = refl; total = refl; left = refl }
+pub reset_between : (e : Engine) → Between (cleared e)
+reset_between e = record { len = refl; total = refl; left = refl }
 
 -- a read leaves it there
 pub read_between : (g : Given) (w : World) (room : List ℕ) → Between w.e → Between (reads g w room).e
@@ -119,39 +119,39 @@ abbrev Same : World → Ran → Type 0
 Same w r = r.w.e.up.left ≡ w.e.up.left
 
 module _ (l : Lent) (w : World) where
-  flush-same : (next : World → Ran) → ((d : Dev) → Same w (next (at_dev d w))) → Same w (after_flush w next (flushing l (dev_of w)))
-  flush-same next h =
+  flush_same : (next : World → Ran) → ((d : Dev) → Same w (next (at_dev d w))) → Same w (after_flush w next (flushing l (dev_of w)))
+  flush_same next h =
       let t = flushing l (dev_of w) in
       either (Same w) (eqb t.status 0) (next (at_dev t.dev w)) (ran fail (at_dev t.dev w)) (h t.dev) refl
 
   end_same : Same w (end_upgrade l w)
   unfolding end_upgrade
-  end_same = flush-same (ran (ok [])) (λ d. refl)
+  end_same = flush_same (ran (ok [])) (λ d. refl)
 
-  probed-same : (v : World) → (probed l v).e.up.left ≡ v.e.up.left
+  probed_same : (v : World) → (probed l v).e.up.left ≡ v.e.up.left
   unfolding probed
-  probed-same v =
+  probed_same v =
       either (λ (u : World). u.e.up.left ≡ v.e.up.left) v.e.up.aimed
       (at_dev (reading l v.e.up.target (replicate 16 0) (dev_of v)).told.dev v) v refl refl
 
-  crc-same : Same w (crc_query l w)
+  crc_same : Same w (crc_query l w)
   unfolding crc_query
-  crc-same = flush-same (λ v. ran (ok (bytes_of 4 v.e.up.crc)) (probed l v)) (λ d. probed-same (at_dev d w))
+  crc_same = flush_same (λ v. ran (ok (bytes_of 4 v.e.up.crc)) (probed l v)) (λ d. probed_same (at_dev d w))
 
-  fwc-same : (d : List ℕ) → Same w (read_fwc l d w)
+  fwc_same : (d : List ℕ) → Same w (read_fwc l d w)
   unfolding read_fwc
-  fwc-same d = go (pair_of d)
+  fwc_same d = go (pair_of d)
     where
       go : (p : Pair) → Same w (read_fwc_by l w p)
       go Cut = refl
       go (Both off len) = refl
 
-  erased-same : (d : List ℕ) → Same w (erase_storage l d w)
+  erased_same : (d : List ℕ) → Same w (erase_storage l d w)
   unfolding erase_storage
-  erased-same d =
+  erased_same d =
       let e : World → Told = λ v. erasing l (word_at 8 d 0) (word_at 8 d 8) (dev_of v) in
       either (Same w) (leb 24 (length d)) (after_flush w (λ v. erased_by v (e v)) (flushing l (dev_of w))) (ran fail w)
-      (flush-same (λ v. erased_by v (e v)) (λ d. refl)) refl
+      (flush_same (λ v. erased_by v (e v)) (λ d. refl)) refl
 
   aims_same : (s : Lists) (meta : List ℕ) (v : World) → (aims s meta v).w.e.up.left ≡ v.e.up.left
   unfolding aims
@@ -162,13 +162,13 @@ module _ (l : Lent) (w : World) where
       go (target.At o) = refl
       go target.Unknown = refl
 
-  meta-same : (s : Lists) (d : List ℕ) → Same w (set_meta l s d w)
+  meta_same : (s : Lists) (d : List ℕ) → Same w (set_meta l s d w)
   unfolding set_meta
-  meta-same s d =
+  meta_same s d =
       let m = drop (length d - 512) d in
       let f = after_flush w (aims s m) (flushing l (dev_of w)) in
       either (Same w) (leb 512 (length d)) (cond (is_meta m) f (ran fail w)) (ran fail w)
-      (either (Same w) (is_meta m) f (ran fail w) (flush-same (aims s m) (λ d. aims_same s m (at_dev d w))) refl) refl
+      (either (Same w) (is_meta m) f (ran fail w) (flush_same (aims s m) (λ d. aims_same s m (at_dev d w))) refl) refl
 
   write_same : (off : ℕ) (x : Window) → Same w (run_write l off x w)
   unfolding run_write
@@ -184,10 +184,10 @@ module _ (l : Lent) (w : World) where
   take_same off window.Out = refl
   take_same off (window.At place len) = refl
 
-  boot-same : (x : Window) → Same w (run_boot x w)
+  boot_same : (x : Window) → Same w (run_boot x w)
   unfolding run_boot
-  boot-same window.Out = refl
-  boot-same (window.At place len) = refl
+  boot_same window.Out = refl
+  boot_same (window.At place len) = refl
 
   line_same : (x : Line) → Same w (run_by l w x)
   unfolding run_erase
@@ -196,33 +196,33 @@ module _ (l : Lent) (w : World) where
   line_same (line.Erase start size) = refl
   line_same (line.Write off len addr) = write_same off (window_of w.e.base (length w.scratch) addr len)
   line_same (line.Read off len addr) = take_same off (window_of w.e.base (length w.scratch) addr len)
-  line_same (line.Boot addr len) = boot-same (window_of w.e.base (length w.scratch) addr len)
+  line_same (line.Boot addr len) = boot_same (window_of w.e.base (length w.scratch) addr len)
 
-shell-same : (l : Lent) (d : List ℕ) (w : World) → Same w (shell l d w)
+shell_same : (l : Lent) (d : List ℕ) (w : World) → Same w (shell l d w)
 unfolding shell run_line
-shell-same l d w = go (text_of d)
+shell_same l d w = go (text_of d)
   where
     go : (x : Text) → Same w (shell_by l d w x)
     go text.Bad = refl
     go (text.Len n) = line_same l _ (line_of (take n (drop 4 d)))
 
 module _ (g : Given) where
-  memory-same : (c : ℕ) (d : List ℕ) (w : World) → Same w (memory c d w)
+  memory_same : (c : ℕ) (d : List ℕ) (w : World) → Same w (memory c d w)
   unfolding memory
-  memory-same c d w =
+  memory_same c d w =
       either (Same w) (eqb c 0x02) (wrote_by w (write_of w.e.base w.scratch d)) (ran (read_of w.e.base w.scratch d) w) refl refl
 
-  storing-same : (c : ℕ) (d : List ℕ) (w : World) → Same w (storing g c d w)
+  storing_same : (c : ℕ) (d : List ℕ) (w : World) → Same w (storing g c d w)
   unfolding storing
-  storing-same c d w =
+  storing_same c d w =
       let l = g.lent in
       let e = erase_storage l d w in
       let r = cond (eqb c 0x18) (read_fwc l d w) e in
       let q = cond (eqb c 0x13) (crc_query l w) r in
       let m = cond (eqb c 0x10) (set_meta l g.lists d w) q in
       either (Same w) (eqb c 0x0B) (end_upgrade l w) m (end_same l w)
-      (either (Same w) (eqb c 0x10) (set_meta l g.lists d w) q (meta-same l w g.lists d)
-      (either (Same w) (eqb c 0x13) (crc_query l w) r (crc-same l w) (either (Same w) (eqb c 0x18) (read_fwc l d w) e (fwc-same l w d) (erased-same l w d))))
+      (either (Same w) (eqb c 0x10) (set_meta l g.lists d w) q (meta_same l w g.lists d)
+      (either (Same w) (eqb c 0x13) (crc_query l w) r (crc_same l w) (either (Same w) (eqb c 0x18) (read_fwc l d w) e (fwc_same l w d) (erased_same l w d))))
 
   -- a command leaves as much of a stream to come as there was
   pub runs_same : (c : ℕ) (d : List ℕ) (w : World) → (runs g c d w).w.e.up.left ≡ w.e.up.left
@@ -230,9 +230,9 @@ module _ (g : Given) where
   runs_same c d w = go (group_of c)
     where
       go : (x : Group) → Same w (runs_by g c d w x)
-      go group.Memory = memory-same c d w
-      go group.Shell = shell-same g.lent d w
-      go group.Storage = storing-same c d w
+      go group.Memory = memory_same c d w
+      go group.Shell = shell_same g.lent d w
+      go group.Storage = storing_same c d w
       go group.Plain = refl
 
   -- ---- status 1
@@ -244,87 +244,87 @@ module _ (g : Given) where
   zero_ended w z = absurd (omega arith)
 
   -- a stream's bytes have status 0
-  streamed-ended : (w : World) → Ended (streamed_by g.lent w)
+  streamed_ended : (w : World) → Ended (streamed_by g.lent w)
   unfolding finishes
-  streamed-ended w = either Ended (eqb w.e.up.left 0) (finishes g.lent w) (out_of 0 w) (λ z. absurd (omega arith)) (zero_ended w)
+  streamed_ended w = either Ended (eqb w.e.up.left 0) (finishes g.lent w) (out_of 0 w) (λ z. absurd (omega arith)) (zero_ended w)
 
   -- a command's end leaves frame and stream
-  ends-ended : (c : ℕ) (a : Answer) (w : World) → Between w.e → Ended (ends c a w)
+  ends_ended : (c : ℕ) (a : Answer) (w : World) → Between w.e → Ended (ends c a w)
   unfolding ends replied
-  ends-ended c a w b z = record { len = b.len; total = b.total; left = b.left }
+  ends_ended c a w b z = record { len = b.len; total = b.total; left = b.left }
 
   module _ (w : World) (h : w.e.up.left ≡ 0) where
-    performs-ended : (c n : ℕ) → Ended (performs g c n w)
+    performs_ended : (c n : ℕ) → Ended (performs g c n w)
     unfolding performs
-    performs-ended c n =
+    performs_ended c n =
         let d = take n (drop 16 w.request) in
         let v = at_e (begun c w.e) w in
         let r = runs g c d v in
-        let f = (runs-tidy g c d v).keeps.frame in
-        ends-ended c r.answer r.w
+        let f = (runs_tidy g c d v).keeps.frame in
+        ends_ended c r.answer r.w
         (record { len = ap (λ (x : Frame). x.len) f; total = ap (λ (x : Frame). x.total) f; left = runs_same c d v ∙ h })
 
-    execs-ended : Ended (execs g w)
+    execs_ended : Ended (execs g w)
     unfolding execs
-    execs-ended = go (order_of (take w.e.frame.total w.request))
+    execs_ended = go (order_of (take w.e.frame.total w.request))
       where
         go : (o : Order) → Ended (exec_by g w o)
         go Bad = λ z. record { len = refl; total = refl; left = h }
-        go (Run c n) = performs-ended c n
+        go (Run c n) = performs_ended c n
 
-    ripens-ended : Ended (ripens g w)
+    ripens_ended : Ended (ripens g w)
     unfolding ripens
-    ripens-ended = either Ended (ltb w.e.frame.len w.e.frame.total) (out_of 0 w) (execs g w) (zero_ended w) execs-ended
+    ripens_ended = either Ended (ltb w.e.frame.len w.e.frame.total) (out_of 0 w) (execs g w) (zero_ended w) execs_ended
 
-    begins-ended : (n : ℕ) → Ended (begins g.lent n (at_e (emptied w.e) w))
+    begins_ended : (n : ℕ) → Ended (begins g.lent n (at_e (emptied w.e) w))
     unfolding begins
-    begins-ended n =
+    begins_ended n =
         let v = at_e (emptied w.e) w in
         let u = at_e (with_up (started n v.e.up) v.e) v in
-        either Ended v.e.up.valid (streamed_by g.lent u) (ends 0x12 fail v) (streamed-ended u)
-        (ends-ended 0x12 fail v (record { len = refl; total = refl; left = h }))
+        either Ended v.e.up.valid (streamed_by g.lent u) (ends 0x12 fail v) (streamed_ended u)
+        (ends_ended 0x12 fail v (record { len = refl; total = refl; left = h }))
 
-  heads-ended : (w : World) → w.e.up.left ≡ 0 → Ended (heads g w)
+  heads_ended : (w : World) → w.e.up.left ≡ 0 → Ended (heads g w)
   unfolding heads
-  heads-ended w h = go (next_of w.request)
+  heads_ended w h = go (next_of w.request)
     where
       go : (x : Next) → Ended (headed_by g w x)
       go Refused = λ z. record { len = refl; total = refl; left = h }
-      go (Send n) = begins-ended w h n
-      go (Total t) = ripens-ended (framed 16 t w) h
+      go (Send n) = begins_ended w h n
+      go (Total t) = ripens_ended (framed 16 t w) h
 
-  fills-ended : (w : World) → w.e.up.left ≡ 0 → Ended (fills g w)
+  fills_ended : (w : World) → w.e.up.left ≡ 0 → Ended (fills g w)
   unfolding fills
-  fills-ended w h =
+  fills_ended w h =
       either Ended (eqb w.e.frame.total 0) (cond (ltb w.e.frame.len 16) (out_of 0 w) (heads g w)) (ripens g w)
-      (either Ended (ltb w.e.frame.len 16) (out_of 0 w) (heads g w) (zero_ended w) (heads-ended w h)) (ripens-ended w h)
+      (either Ended (ltb w.e.frame.len 16) (out_of 0 w) (heads g w) (zero_ended w) (heads_ended w h)) (ripens_ended w h)
 
-  turns-ended : (p : List ℕ) (w : World) → Ended (turns g p w)
+  turns_ended : (p : List ℕ) (w : World) → Ended (turns g p w)
   unfolding turns gathers streams
-  turns-ended p w = go (eqb w.e.up.left 0) refl
+  turns_ended p w = go (eqb w.e.up.left 0) refl
     where
       go : (b : Bool) → eqb w.e.up.left 0 ≡ b → Ended (cond b (gathers g p w) (streams g.lent p w))
-      go true e = fills-ended (grown w p) (eqb-true w.e.up.left 0 e)
-      go false e = streamed-ended (fed g.lent p w)
+      go true e = fills_ended (grown w p) (eqb-true w.e.up.left 0 e)
+      go false e = streamed_ended (fed g.lent p w)
 
-  goes-ended : (k : ℕ) (w : World) (d : List ℕ) → Ended (goes g k w d)
+  goes_ended : (k : ℕ) (w : World) (d : List ℕ) → Ended (goes g k w d)
   unfolding goes then_by
-  goes-ended zero w d = zero_ended w
-  goes-ended (suc k) w [] = zero_ended w
-  goes-ended (suc k) w (b ∷ bs) =
+  goes_ended zero w d = zero_ended w
+  goes_ended (suc k) w [] = zero_ended w
+  goes_ended (suc k) w (b ∷ bs) =
       let o = turns g (take (cut_of w) (b ∷ bs)) w in
       let r = drop (cut_of w) (b ∷ bs) in
-      either Ended (eqb o.status 0) (goes g k o.w r) o (goes-ended k o.w r) (turns-ended (take (cut_of w) (b ∷ bs)) w)
+      either Ended (eqb o.status 0) (goes g k o.w r) o (goes_ended k o.w r) (turns_ended (take (cut_of w) (b ∷ bs)) w)
 
   -- demand 3: 'After any calls at all, a write returning 1 puts the engine between frames'. Any state, any storage, any bytes
-  pub one-between : (w : World) (d : List ℕ) → (writes g w d).status ≡ 1 → Between (writes g w d).w.e
+  pub one_between : (w : World) (d : List ℕ) → (writes g w d).status ≡ 1 → Between (writes g w d).w.e
   unfolding writes feeds
-  one-between w d = either Ended (fits g w) (feeds g w d) (out_of 9 w) (goes-ended (length d) w d) (λ z. absurd (omega arith))
+  one_between w d = either Ended (fits g w) (feeds g w d) (out_of 9 w) (goes_ended (length d) w d) (λ z. absurd (omega arith))
 
   -- such a write was not refused, so the engine fits its parts
-  pub one-fits : (w : World) (d : List ℕ) → (writes g w d).status ≡ 1 → fits g w ≡ true
+  pub one_fits : (w : World) (d : List ℕ) → (writes g w d).status ≡ 1 → fits g w ≡ true
   unfolding writes
-  one-fits w d = go (fits g w)
+  one_fits w d = go (fits g w)
     where
       go : (b : Bool) → (cond b (feeds g w d) (out_of 9 w)).status ≡ 1 → b ≡ true
       go true z = refl
@@ -345,73 +345,73 @@ module _ (g : Given) where
     head_few : k < 16
     head_few = (in_bounds g w h.fit).fit.frame.0 h.total
 
-    head-cut : cut_of w ≡ 16 - k
+    head_cut : cut_of w ≡ 16 - k
     unfolding want_by
-    head-cut = let i = head_few in rw (eq-eqb w.e.up.left 0 h.left, eq-eqb w.e.frame.total 0 h.total) (omega arith)
+    head_cut = let i = head_few in rw (eq-eqb w.e.up.left 0 h.left, eq-eqb w.e.frame.total 0 h.total) (omega arith)
 
-    head-turn : (p : List ℕ) → turns g p w ≡ fills g (grown w p)
+    head_turn : (p : List ℕ) → turns g p w ≡ fills g (grown w p)
     unfolding gathers
-    head-turn p = sym (turn-frame g p w h.left refl)
+    head_turn p = sym (turn_frame g p w h.left refl)
 
     -- the piece that completes the header
-    head-whole : (p : List ℕ) → k + length p ≡ 16 → turns g p w ≡ headed_by g (grown w p) (next_of (take k w.request ++ p))
+    head_whole : (p : List ℕ) → k + length p ≡ 16 → turns g p w ≡ headed_by g (grown w p) (next_of (take k w.request ++ p))
     unfolding heads
-    head-whole p e =
+    head_whole p e =
         let r = (in_bounds g w h.fit).fit.mid.request in
-        head-turn p ∙ sym (fills-head g (grown w p) h.total (omega arith) {o = heads g (grown w p)} refl)
-        ∙ ap (headed_by g (grown w p)) (gathered-header w.request k p head_few e (omega arith))
+        head_turn p ∙ sym (fills_head g (grown w p) h.total (omega arith) {o = heads g (grown w p)} refl)
+        ∙ ap (headed_by g (grown w p)) (gathered_header w.request k p head_few e (omega arith))
 
     -- sixteen bytes are judged once they are there, the gathered ones and those of this write
-    pub heading-judged : (d : List ℕ) → 16 ≤ k + length d
+    pub heading_judged : (d : List ℕ) → 16 ≤ k + length d
         → writes g w d ≡ then_by (headed_by g (grown w (take (16 - k) d)) (next_of (take k w.request ++ take (16 - k) d))) (λ v. feeds g v (drop (16 - k) d))
-    heading-judged d n =
+    heading_judged d n =
         let i = head_few in
         let t = length-take-le (16 - k) d (omega arith) in
-        write-feeds g w h.fit d ∙ feed-step g w d (omega arith)
-        ∙ ap (λ (m : ℕ). then_by (turns g (take m d) w) (λ v. feeds g v (drop m d))) head-cut
-        ∙ ap (λ (o : Out). then_by o (λ v. feeds g v (drop (16 - k) d))) (head-whole (take (16 - k) d) (omega arith))
+        write_feeds g w h.fit d ∙ feed_step g w d (omega arith)
+        ∙ ap (λ (m : ℕ). then_by (turns g (take m d) w) (λ v. feeds g v (drop m d))) head_cut
+        ∙ ap (λ (o : Out). then_by o (λ v. feeds g v (drop (16 - k) d))) (head_whole (take (16 - k) d) (omega arith))
 
     -- fewer are gathered
-    pub heading-gathers : (d : List ℕ) → k + length d < 16 → writes g w d ≡ out_of 0 (grown w d)
-    heading-gathers d n = write-feeds g w h.fit d ∙ go d n
+    pub heading_gathers : (d : List ℕ) → k + length d < 16 → writes g w d ≡ out_of 0 (grown w d)
+    heading_gathers d n = write_feeds g w h.fit d ∙ go d n
       where
         go : (d : List ℕ) → k + length d < 16 → feeds g w d ≡ out_of 0 (grown w d)
-        go [] n = feed-nil g w ∙ rw add-zero
+        go [] n = feed_nil g w ∙ rw add-zero
         go (b ∷ bs) n =
             let d = b ∷ bs in
-            let c = head-cut in
-            let t : turns g d w ≡ out_of 0 (grown w d) = head-turn d ∙ sym (fills-more g (grown w d) h.total n) in
-            feed-step g w d (omega arith)
-            ∙ rw (take_all (cut_of w) d (omega arith), drop_of_length-le d {i = cut_of w} (omega arith), t) (then-go g (out_of 0 (grown w d)) _ refl)
-            ∙ feed-nil g (grown w d)
+            let c = head_cut in
+            let t : turns g d w ≡ out_of 0 (grown w d) = head_turn d ∙ sym (fills_more g (grown w d) h.total n) in
+            feed_step g w d (omega arith)
+            ∙ rw (take_all (cut_of w) d (omega arith), drop_of_length-le d {i = cut_of w} (omega arith), t) (then_go g (out_of 0 (grown w d)) _ refl)
+            ∙ feed_nil g (grown w d)
 
   module _ (w : World) (f : fits g w ≡ true) (b : Between w.e) where
-    between-heading : Heading w
-    between-heading = record { fit = f; total = b.total; left = b.left }
+    between_heading : Heading w
+    between_heading = record { fit = f; total = b.total; left = b.left }
 
     -- demand 3: 'the next write's bytes start a frame': the first sixteen are the header that is judged
-    pub header-judged : (d : List ℕ) → 16 ≤ length d
+    pub header_judged : (d : List ℕ) → 16 ≤ length d
         → writes g w d ≡ then_by (headed_by g (grown w (take 16 d)) (next_of (take 16 d))) (λ v. feeds g v (drop 16 d))
-    header-judged d n =
+    header_judged d n =
         subst
         (λ (k : ℕ). writes g w d ≡ then_by (headed_by g (grown w (take (16 - k) d)) (next_of (take k w.request ++ take (16 - k) d))) (λ v. feeds g v (drop (16 - k) d)))
-        b.len (heading-judged w between-heading d (omega (arith, b.len)))
+        b.len (heading_judged w between_heading d (omega (arith, b.len)))
 
     -- and fewer are its beginning
-    pub header-gathers : (d : List ℕ) → length d < 16 → writes g w d ≡ out_of 0 (grown w d)
-    header-gathers d n = heading-gathers w between-heading d (omega (arith, b.len))
+    pub header_gathers : (d : List ℕ) → length d < 16 → writes g w d ≡ out_of 0 (grown w d)
+    header_gathers d n = heading_gathers w between_heading d (omega (arith, b.len))
 
   -- the write behind one that returned 1: its first sixteen bytes are the header that is judged
-  pub one-judged : (w : World) (d s : List ℕ) → (writes g w d).status ≡ 1 → 16 ≤ length s
+  pub one_judged : (w : World) (d s : List ℕ) → (writes g w d).status ≡ 1 → 16 ≤ length s
       → (let v = (writes g w d).w in
       writes g v s ≡ then_by (headed_by g (grown v (take 16 s)) (next_of (take 16 s))) (λ u. feeds g u (drop 16 s)))
-  one-judged w d s z = header-judged (writes g w d).w (write-fits g w (one-fits w d z) d) (one-between w d z) s
+  one_judged w d s z = header_judged (writes g w d).w (write_fits g w (one_fits w d z) d) (one_between w d z) s
 
   -- and the write behind a reset
-  pub reset-judged : (w : World) (s : List ℕ) → fits g w ≡ true → 16 ≤ length s
+  pub reset_judged : (w : World) (s : List ℕ) → fits g w ≡ true → 16 ≤ length s
       → (let v = at_e (cleared w.e) w in
       writes g v s ≡ then_by (headed_by g (grown v (take 16 s)) (next_of (take 16 s))) (λ u. feeds g u (drop 16 s)))
-  reset-judged w s f = header-judged (at_e (cleared w.e) w) (reset-fits g w f) (reset-between w.e) s
+  reset_judged w s f = header_judged (at_e (cleared w.e) w) (reset_fits g w f) (reset_between w.e) s
 
 -- ---- which headers are refused
 
@@ -424,9 +424,9 @@ abbrev pub Over : List ℕ → Type 0
 Over h = (accepted h ≡ true) × (get_or h 6 0 ≡ 0x12 → ⊥) × (8192 < word_at 4 h 8)
 
 -- demand 3: 'refused for a wrong header or its size (1a, 1b)'
-pub refused-means : (h : List ℕ) → next_of h ≡ Refused → Wrong h ⊎ Over h
+pub refused_means : (h : List ℕ) → next_of h ≡ Refused → Wrong h ⊎ Over h
 unfolding next_of parsed
-refused-means h = go (accepted h) refl
+refused_means h = go (accepted h) refl
   where
     by : (c n : ℕ) (a b : Bool) → eqb c 0x12 ≡ a → leb n 8192 ≡ b → cond a (Send (n % 2 ^ 32)) (cond b (Total (16 + n)) Refused) ≡ Refused → (c ≡ 0x12 → ⊥) × (8192 < n)
     by c n true b p q e = let z : ◌≡◌ {A = ℕ} 0 1 = cc in absurd (omega arith)
@@ -438,10 +438,10 @@ refused-means h = go (accepted h) refl
     go false p e = inl p
 
 -- and these are
-pub means-refused : (h : List ℕ) → Wrong h ⊎ Over h → next_of h ≡ Refused
+pub means_refused : (h : List ℕ) → Wrong h ⊎ Over h → next_of h ≡ Refused
 unfolding next_of parsed
-means-refused h (inl p) = rw p
-means-refused h (inr r) = rw (r.0, ne_eqb (get_or h 6 0) 0x12 r.1, lt-leb (word_at 4 h 8) 8192 r.2)
+means_refused h (inl p) = rw p
+means_refused h (inr r) = rw (r.0, ne_eqb (get_or h 6 0) 0x12 r.1, lt-leb (word_at 4 h 8) 8192 r.2)
 
 -- ---- a refused header changes nothing but the request
 
@@ -462,9 +462,9 @@ alike_refl w =
     record { up = refl; reply = refl; store = refl; chip = refl; buffer = refl; scratch = refl; upgrading = refl; asked = refl; base = refl }
 
 -- from v on only frame, request and said differ
-alike-on : (w v : World) (f : Frame) (s : Said) (q : List ℕ) → Alike w v
+alike_on : (w v : World) (f : Frame) (s : Said) (q : List ℕ) → Alike w v
     → Alike w (world (with_said s (with_frame f v.e)) q v.reply v.chip v.buffer v.scratch)
-alike-on w v f s q a =
+alike_on w v f s q a =
     record {
       up = a.up;
       reply = a.reply;
@@ -510,19 +510,19 @@ NoReset (reset ∷ cs) = ⊥
 module _ (g : Given) where
   module _ (w : World) (h : Heading g w) (d : List ℕ) (n : 16 ≤ w.e.frame.len + length d) (r : next_of (header_at w d) ≡ Refused) where
     -- 1a, 1b: 'write returns 1; rest of this call dropped; request emptied; all else kept', whatever was gathered before
-    pub refused-keeps : writes g w d ≡ turned_away w (take (16 - w.e.frame.len) d)
-    refused-keeps =
+    pub refused_keeps : writes g w d ≡ turned_away w (take (16 - w.e.frame.len) d)
+    refused_keeps =
         let p = take (16 - w.e.frame.len) d in
-        heading-judged g w h d n ∙ ap (λ (x : Next). then_by (headed_by g (grown w p) x) (λ v. feeds g v (drop (16 - w.e.frame.len) d))) r
-        ∙ then-stop g (refuses (grown w p)) _ (λ z. omega arith)
+        heading_judged g w h d n ∙ ap (λ (x : Next). then_by (headed_by g (grown w p) x) (λ v. feeds g v (drop (16 - w.e.frame.len) d))) r
+        ∙ then_stop g (refuses (grown w p)) _ (λ z. omega arith)
 
     -- demand 3: 'A frame refused for a wrong header or its size (1a, 1b) changes no update record, waiting reply or flash'
-    pub refused-spelled : Untouched w (writes g w d)
-    refused-spelled =
-        rw refused-keeps
+    pub refused_spelled : Untouched w (writes g w d)
+    refused_spelled =
+        rw refused_keeps
         (record {
           status = refl;
-          alike = alike-on w w (record { len = 0; total = 0 }) w.e.said (sets w.request w.e.frame.len (take (16 - w.e.frame.len) d)) (alike_refl w);
+          alike = alike_on w w (record { len = 0; total = 0 }) w.e.said (sets w.request w.e.frame.len (take (16 - w.e.frame.len) d)) (alike_refl w);
           said = refl;
           between = record { len = refl; total = refl; left = h.left };
         })
@@ -533,17 +533,17 @@ module _ (g : Given) where
     v = (writes g w a).w
 
     module _ (t : v.e.frame.total ≡ 0) (l : v.e.up.left ≡ 0) (n : 16 ≤ v.e.frame.len + length d) (r : next_of (header_at v d) ≡ Refused) where
-      behind-heading : Heading g v
-      behind-heading = record { fit = write-fits g w f a; total = t; left = l }
+      behind_heading : Heading g v
+      behind_heading = record { fit = write_fits g w f a; total = t; left = l }
 
-      behind-cut : writes g w (a ++ d) ≡ writes g v d
-      behind-cut = write-cut-unaimed g w f a d z (λ o. absurd (o l))
+      behind_cut : writes g w (a ++ d) ≡ writes g v d
+      behind_cut = write_cut_unaimed g w f a d z (λ o. absurd (o l))
 
-      pub refused-behind : writes g w (a ++ d) ≡ turned_away v (take (16 - v.e.frame.len) d)
-      refused-behind = behind-cut ∙ refused-keeps v behind-heading d n r
+      pub refused_behind : writes g w (a ++ d) ≡ turned_away v (take (16 - v.e.frame.len) d)
+      refused_behind = behind_cut ∙ refused_keeps v behind_heading d n r
 
-      pub behind-spelled : Untouched v (writes g w (a ++ d))
-      behind-spelled = subst (Untouched v) (sym behind-cut) (refused-spelled v behind-heading d n r)
+      pub behind_spelled : Untouched v (writes g w (a ++ d))
+      behind_spelled = subst (Untouched v) (sym behind_cut) (refused_spelled v behind_heading d n r)
 
   -- ---- a header cut across writes, with reads between
 
@@ -555,10 +555,10 @@ module _ (g : Given) where
     pub alike : Alike w v
     pub told : v.e.said.len ≡ w.e.said.len
 
-  pub begun-start : (w : World) → fits g w ≡ true → Between w.e → Begun w [] w
-  begun-start w f b =
+  pub begun_start : (w : World) → fits g w ≡ true → Between w.e → Begun w [] w
+  begun_start w f b =
       record {
-        heading = between-heading g w f b;
+        heading = between_heading g w f b;
         bytes = ap (λ (k : ℕ). take k w.request) b.len;
         len = b.len;
         alike = alike_refl w;
@@ -570,15 +570,15 @@ module _ (g : Given) where
     at = v.e.frame.len
 
     -- a piece that does not complete it
-    begun-write : (d : List ℕ) → length h + length d < 16 → Begun w (h ++ d) (writes g v d).w
-    begun-write d n =
+    begun_write : (d : List ℕ) → length h + length d < 16 → Begun w (h ++ d) (writes g v d).w
+    begun_write d n =
         let f = b.heading.fit in
         let l = b.len in
         let r = (in_bounds g v f).fit.mid.request in
-        let e = heading-gathers g v b.heading d (omega arith) in
+        let e = heading_gathers g v b.heading d (omega arith) in
         let t = length-take-le at v.request (omega arith) in
         let m : length (take at v.request ++ d) ≡ at + length d = length-append (take at v.request) d ∙ ap (λ (k : ℕ). k + length d) t in
-        let fit : fits g (grown v d) ≡ true = subst (λ (o : Out). fits g o.w ≡ true) e (write-fits g v f d) in
+        let fit : fits g (grown v d) ≡ true = subst (λ (o : Out). fits g o.w ≡ true) e (write_fits g v f d) in
         subst (λ (o : Out). Begun w (h ++ d) o.w) (sym e)
         (record {
           heading = record { fit = fit; total = b.heading.total; left = b.heading.left };
@@ -586,13 +586,13 @@ module _ (g : Given) where
               ap (take (at + length d)) (sets-eq d v.request at (omega arith))
               ∙ take_at (take at v.request ++ d) (drop (at + length d) v.request) (at + length d) m ∙ ap (λ (x : List ℕ). x ++ d) b.bytes;
           len = ap (λ (k : ℕ). k + length d) l ∙ sym (length-append h d);
-          alike = alike-on w v (record { len = at + length d; total = v.e.frame.total }) v.e.said (sets v.request at d) b.alike;
+          alike = alike_on w v (record { len = at + length d; total = v.e.frame.total }) v.e.said (sets v.request at d) b.alike;
           told = b.told;
         })
 
     -- a read
-    begun-read : (room : List ℕ) → Begun w h (at_e (reads g v room).e v)
-    begun-read room =
+    begun_read : (room : List ℕ) → Begun w h (at_e (reads g v room).e v)
+    begun_read room =
         let f = b.heading.fit in
         let n = min (v.e.said.len - v.e.said.pos) (length room) in
         let e : reads g v room ≡ read_by v room n = unfold reads in rw f in
@@ -602,7 +602,7 @@ module _ (g : Given) where
           heading = record { fit = fit; total = b.heading.total; left = b.heading.left };
           bytes = b.bytes;
           len = b.len;
-          alike = alike-on w v v.e.frame (record { len = v.e.said.len; pos = v.e.said.pos + n }) v.request b.alike;
+          alike = alike_on w v v.e.frame (record { len = v.e.said.len; pos = v.e.said.pos + n }) v.request b.alike;
           told = b.told;
         })
 
@@ -612,46 +612,46 @@ module _ (g : Given) where
         let k : length h + (16 - length h) ≡ 16 = omega arith in
         rw (b.bytes, b.len) (sym (take-append-add h d (16 - length h))) ∙ ap (λ (m : ℕ). take m (h ++ d)) k
 
-    pub begun-judged : (d : List ℕ) → 16 ≤ length h + length d
+    pub begun_judged : (d : List ℕ) → 16 ≤ length h + length d
         → writes g v d ≡ then_by (headed_by g (grown v (take (16 - length h) d)) (next_of (take 16 (h ++ d)))) (λ u. feeds g u (drop (16 - length h) d))
-    begun-judged d n =
+    begun_judged d n =
         let i = head_few g v b.heading in
         let l = b.len in
-        heading-judged g v b.heading d (omega arith)
+        heading_judged g v b.heading d (omega arith)
         ∙ ap (λ (x : List ℕ). then_by (headed_by g (grown v (take (16 - at) d)) (next_of x)) (λ u. feeds g u (drop (16 - at) d))) (header_is d (omega arith))
         ∙ ap (λ (k : ℕ). then_by (headed_by g (grown v (take (16 - k) d)) (next_of (take 16 (h ++ d)))) (λ u. feeds g u (drop (16 - k) d))) l
 
     -- and if they are refused, nothing changed but the request since the first of them came
-    begun-refused : (d : List ℕ) → 16 ≤ length h + length d → next_of (take 16 (h ++ d)) ≡ Refused → Untouched v (writes g v d) × Alike w (writes g v d).w
-    begun-refused d n r =
+    begun_refused : (d : List ℕ) → 16 ≤ length h + length d → next_of (take 16 (h ++ d)) ≡ Refused → Untouched v (writes g v d) × Alike w (writes g v d).w
+    begun_refused d n r =
         let i = head_few g v b.heading in
         let l = b.len in
         let x = ap next_of (header_is d (omega arith)) ∙ r in
         let q = sets v.request at (take (16 - at) d) in (
-          refused-spelled v b.heading d (omega arith) x,
-          rw (refused-keeps v b.heading d (omega arith) x) (alike-on w v (record { len = 0; total = 0 }) v.e.said q b.alike),
+          refused_spelled v b.heading d (omega arith) x,
+          rw (refused_keeps v b.heading d (omega arith) x) (alike_on w v (record { len = 0; total = 0 }) v.e.said q b.alike),
         )
 
-  begun-run : (cs : List Call) (w : World) (h : List ℕ) (v : World) → Begun w h v → NoReset cs → length h + length (sent_by cs) < 16
+  begun_run : (cs : List Call) (w : World) (h : List ℕ) (v : World) → Begun w h v → NoReset cs → length h + length (sent_by cs) < 16
       → Begun w (h ++ sent_by cs) (after_all g v cs)
   unfolding after_all
-  begun-run [] w h v b o n = rw (append-nil h) b
-  begun-run (write d ∷ cs) w h v b o n =
+  begun_run [] w h v b o n = rw (append-nil h) b
+  begun_run (write d ∷ cs) w h v b o n =
       let m = length-append d (sent_by cs) in
       let i = length-append h d in
       subst (λ (x : List ℕ). Begun w x (after_all g (writes g v d).w cs)) (append_assoc h d (sent_by cs))
-      (begun-run cs w (h ++ d) (writes g v d).w (begun-write w h v b d (omega arith)) o (omega arith))
-  begun-run (read room ∷ cs) w h v b o n = begun-run cs w h (at_e (reads g v room).e v) (begun-read w h v b room) o n
-  begun-run (reset ∷ cs) w h v b o n = absurd o
+      (begun_run cs w (h ++ d) (writes g v d).w (begun_write w h v b d (omega arith)) o (omega arith))
+  begun_run (read room ∷ cs) w h v b o n = begun_run cs w h (at_e (reads g v room).e v) (begun_read w h v b room) o n
+  begun_run (reset ∷ cs) w h v b o n = absurd o
 
   -- between frames, the bytes of a header cut across writes anyhow, with reads between
   module _ (w : World) (f : fits g w ≡ true) (b : Between w.e) (cs : List Call) (o : NoReset cs) (i : length (sent_by cs) < 16) where
     -- while fewer than sixteen came they are gathered, and all else is as it was but what reads took
-    pub header-begun : Begun w (sent_by cs) (after_all g w cs)
-    header-begun = begun-run cs w [] w (begun-start w f b) o (omega arith)
+    pub header_begun : Begun w (sent_by cs) (after_all g w cs)
+    header_begun = begun_run cs w [] w (begun_start w f b) o (omega arith)
 
     -- demand 3: 'A frame refused for a wrong header or its size (1a, 1b) changes no update record, waiting reply or flash': neither the
     -- write that completed its header, nor any since its first byte
-    pub refused-cut : (d : List ℕ) → 16 ≤ length (sent_by cs) + length d → next_of (take 16 (sent_by cs ++ d)) ≡ Refused
+    pub refused_cut : (d : List ℕ) → 16 ≤ length (sent_by cs) + length d → next_of (take 16 (sent_by cs ++ d)) ≡ Refused
         → (let v = after_all g w cs in Untouched v (writes g v d) × Alike w (writes g v d).w)
-    refused-cut d = begun-refused w (sent_by cs) (after_all g w cs) header-begun d
+    refused_cut d = begun_refused w (sent_by cs) (after_all g w cs) header_begun d

@@ -1,7 +1,7 @@
 -- What is kept. Metadata that name an unknown partition fail, "while the OLD target, written, crc and results stay and the metadata counts
--- as valid" (01, 'Frame rules'), and of the storage they make no more than a flush: `unknown-kept`, and `unknown-cut` where the frame is
--- cut across writes anyhow. A reset keeps both flags, scratch and storage, and nothing else: `reset-kept`. And a read gives the bytes
--- that wait, of which the promises speak: `read-waits`.
+-- as valid" (01, 'Frame rules'), and of the storage they make no more than a flush: `unknown_kept`, and `unknown_cut` where the frame is
+-- cut across writes anyhow. A reset keeps both flags, scratch and storage, and nothing else: `reset_kept`. And a read gives the bytes
+-- that wait, of which the promises speak: `read_waits`.
 -- The statements spell out the record field by field, so that they say the same whatever the definitions become.
 use Rattle.std.specs.Prelude.{◌≡◌, Bool, true, false, List, [], ◌∷◌, ◌++◌, ℕ, ◌+◌, ◌-◌, ◌≤◌, ◌<◌, min, length, take, drop, replicate}
 use Rattle.std.proofs.Math.Path.{refl, ap}
@@ -25,21 +25,21 @@ use Rattle.engine.specs.Storing.{after_flush, partition_field, found_at, target_
 use Rattle.engine.specs.Exec.{group_of, storing, runs, begun, answered}
 use Rattle.engine.specs.Feed.{feeds}
 use Rattle.engine.specs.Api.{fits, writes, Read, reads, read_by}
-use Rattle.engine.proofs.Replies.{header-length}
-use Rattle.engine_laws.specs.Bounds.{in_bounds, write-feeds, Call, reset, after, after_all}
+use Rattle.engine.proofs.Replies.{header_length}
+use Rattle.engine_laws.specs.Bounds.{in_bounds, write_feeds, Call, reset, after, after_all}
 use Rattle.engine_laws.specs.Cut.{Quiet}
-use Rattle.engine_laws.specs.Whole.{at_request, emptied_at, between_is, roomed, frame-done}
+use Rattle.engine_laws.specs.Whole.{at_request, emptied_at, between_is, roomed, frame_done}
 use Rattle.promises.specs.Frames.{Between, sent_by, NoReset}
-use Rattle.promises.specs.Cuts.{Answered, Smooth, frame-smooth, carried}
-use Rattle.promises.specs.Flash.{flush-still}
-use Rattle.promises.specs.Update.{waiting, laid-waits}
+use Rattle.promises.specs.Cuts.{Answered, Smooth, frame_smooth, carried}
+use Rattle.promises.specs.Flash.{flush_still}
+use Rattle.promises.specs.Update.{waiting, laid_waits}
 use Rattle.promises.specs.Why.{meta_in}
 
 -- ---- a reply that waits
 
-pub fail-length : (c : ℕ) → length (reply_by c fail) ≡ 16
+pub fail_length : (c : ℕ) → length (reply_by c fail) ≡ 16
 unfolding reply_by
-fail-length c = header-length reply_magic c 1 0
+fail_length c = header_length reply_magic c 1 0
 
 -- ---- metadata of an unknown partition
 
@@ -73,9 +73,9 @@ pub record Kept (l : Lent) (meta : List ℕ) (w : World) (o : Out) : Type 0 wher
   pub scratch : o.w.scratch ≡ w.scratch
   pub between : Between o.w.e
 
-unknown-is : (l : Lists) (m : List ℕ) → (partition_field m ≡ [] → ⊥) → ((o : ℕ) → lookup l (partition_field m) ≡ found.At o → ⊥) → target_of l m ≡ target.Unknown
+unknown_is : (l : Lists) (m : List ℕ) → (partition_field m ≡ [] → ⊥) → ((o : ℕ) → lookup l (partition_field m) ≡ found.At o → ⊥) → target_of l m ≡ target.Unknown
 unfolding target_of
-unknown-is l m n h = go (partition_field m) refl
+unknown_is l m n h = go (partition_field m) refl
   where
     by : (name : List ℕ) → partition_field m ≡ name → (f : Found) → lookup l name ≡ f → found_at f ≡ target.Unknown
     by name e (found.At o) q = absurd (h o (ap (lookup l) e ∙ q))
@@ -102,32 +102,32 @@ module _ (g : Given) (w : World) (z : w.e.up.left ≡ 0) (r : length w.request �
   abbrev left : World
   left = at_e (with_up (stored meta w.e.up) flushed.e) flushed
 
-  runs-meta : runs g 0x10 k.body asked ≡ set_meta g.lent g.lists k.body asked
+  runs_meta : runs g 0x10 k.body asked ≡ set_meta g.lent g.lists k.body asked
   unfolding runs group_of one_of storing
-  runs-meta = refl
+  runs_meta = refl
 
-  set-lost : set_meta g.lent g.lists k.body asked ≡ ran fail left
+  set_lost : set_meta g.lent g.lists k.body asked ≡ ran fail left
   unfolding set_meta aims
-  set-lost =
+  set_lost =
       let after = after_flush asked (aims g.lists meta) (flushing g.lent (dev_of w)) in
       ap (λ (b : Bool). cond b (cond (is_meta meta) after (ran fail asked)) (ran fail asked)) (le-leb 512 (length k.body) k.least)
       ∙ ap (λ (b : Bool). cond b after (ran fail asked)) k.meta
       ∙ ap (λ (b : Bool). cond b (aims g.lists meta flushed) (ran fail flushed)) (eq-eqb (flushing g.lent (dev_of w)).status 0 t)
-      ∙ ap (λ (x : Target). ran (answer_to x) (at_e (with_up (aimed_at meta w.e.up x) flushed.e) flushed)) (unknown-is g.lists meta k.named k.lost)
+      ∙ ap (λ (x : Target). ran (answer_to x) (at_e (with_up (aimed_at meta w.e.up x) flushed.e) flushed)) (unknown_is g.lists meta k.named k.lost)
 
-  lost-is : feeds g (emptied_at w) f ≡ out_of 1 (replied 0x10 fail left)
+  lost_is : feeds g (emptied_at w) f ≡ out_of 1 (replied 0x10 fail left)
   unfolding ends status_by
-  lost-is =
+  lost_is =
       ap (feeds g (emptied_at w)) k.is
-      ∙ frame-done g w z k.head k.body k.sixteen (omega (arith, k.most)) 0x10 k.status k.says (λ e. omega arith) k.most
-      ∙ ap (answered 0x10) (runs-meta ∙ set-lost)
+      ∙ frame_done g w z k.head k.body k.sixteen (omega (arith, k.most)) 0x10 k.status k.says (λ e. omega arith) k.most
+      ∙ ap (answered 0x10) (runs_meta ∙ set_lost)
 
-  lost-left : Kept g.lent meta w (out_of 1 (replied 0x10 fail left))
+  lost_left : Kept g.lent meta w (out_of 1 (replied 0x10 fail left))
   unfolding replied
-  lost-left =
+  lost_left =
       record {
         status = refl;
-        waits = laid-waits 0x10 fail left (omega (arith, fail-length 0x10));
+        waits = laid_waits 0x10 fail left (omega (arith, fail_length 0x10));
         stored = refl;
         valid = refl;
         aimed = refl;
@@ -141,32 +141,32 @@ module _ (g : Given) (w : World) (z : w.e.up.left ≡ 0) (r : length w.request �
         between = record { len = refl; total = refl; left = z };
       }
 
-  lost-done : Kept g.lent meta w (feeds g (emptied_at w) f)
-  lost-done = subst (Kept g.lent meta w) (sym lost-is) lost-left
+  lost_done : Kept g.lent meta w (feeds g (emptied_at w) f)
+  lost_done = subst (Kept g.lent meta w) (sym lost_is) lost_left
 
-  lost-smooth : Smooth g (emptied_at w) f
-  lost-smooth =
+  lost_smooth : Smooth g (emptied_at w) f
+  lost_smooth =
       subst (Smooth g (emptied_at w)) (sym k.is)
-      (frame-smooth g w z k.head k.body k.sixteen (omega (arith, k.most)) 0x10 k.status k.says (λ e. omega arith) k.most)
+      (frame_smooth g w z k.head k.body k.sixteen (omega (arith, k.most)) 0x10 k.status k.says (λ e. omega arith) k.most)
 
 module _ (g : Given) (w : World) (f : fits g w ≡ true) (b : Between w.e) (M : List ℕ) (k : LostFrame g M) where
   same : emptied_at w ≡ w
   same = between_is w (λ t. record { len = b.len t; total = b.total t })
 
   -- THE LAW: from between frames, where the flush does not fail
-  pub unknown-kept : (flushing g.lent (dev_of w)).status ≡ 0 → Kept g.lent (meta_in k.body) w (writes g w M)
-  unknown-kept t =
+  pub unknown_kept : (flushing g.lent (dev_of w)).status ≡ 0 → Kept g.lent (meta_in k.body) w (writes g w M)
+  unknown_kept t =
       let m = (in_bounds g w f).fit.mid in
-      subst (Kept g.lent (meta_in k.body) w) (ap (λ (x : World). feeds g x M) same ∙ sym (write-feeds g w f M)) (lost-done g w b.left m.request m.reply t M k)
+      subst (Kept g.lent (meta_in k.body) w) (ap (λ (x : World). feeds g x M) same ∙ sym (write_feeds g w f M)) (lost_done g w b.left m.request m.reply t M k)
 
   -- and on a NOR that makes no error, with the frame cut across writes anyhow and reads between
-  pub unknown-cut : Quiet g w → (cs : List Call) (last : List ℕ) → NoReset cs → 0 < length last → sent_by cs ++ last ≡ M
+  pub unknown_cut : Quiet g w → (cs : List Call) (last : List ℕ) → NoReset cs → 0 < length last → sent_by cs ++ last ≡ M
       → Answered g w cs × Kept g.lent (meta_in k.body) w (writes g (after_all g w cs) last)
-  unknown-cut q cs last n i e =
+  unknown_cut q cs last n i e =
       let m = (in_bounds g w f).fit.mid in
-      let t = ap (λ (x : Told). x.status) (flush-still g.lent (dev_of w) q).1 in
-      let d = subst (λ (x : World). Kept g.lent (meta_in k.body) w (feeds g x M)) same (lost-done g w b.left m.request m.reply t M k) in
-      let s = subst (λ (x : World). Smooth g x M) same (lost-smooth g w b.left m.request m.reply t M k) in
+      let t = ap (λ (x : Told). x.status) (flush_still g.lent (dev_of w) q).1 in
+      let d = subst (λ (x : World). Kept g.lent (meta_in k.body) w (feeds g x M)) same (lost_done g w b.left m.request m.reply t M k) in
+      let s = subst (λ (x : World). Smooth g x M) same (lost_smooth g w b.left m.request m.reply t M k) in
       let c = carried g w q M last s i cs n f e in
       (c.answered, subst (Kept g.lent (meta_in k.body) w) (sym c.is) d)
 
@@ -190,8 +190,8 @@ pub record Cleared (w v : World) : Type 0 where
   pub scratch : v.scratch ≡ w.scratch
   pub store : dev_of v ≡ dev_of w
 
-pub reset-kept : (g : Given) (w : World) → Cleared w (after g w reset)
-reset-kept g w =
+pub reset_kept : (g : Given) (w : World) → Cleared w (after g w reset)
+reset_kept g w =
     record {
       between = record { len = refl; total = refl; left = refl };
       waits = refl;
@@ -214,10 +214,10 @@ reset-kept g w =
 
 -- "A read copies the next min(room, left) bytes and touches no byte of the room beyond": into a room that takes them all it gives the
 -- bytes that wait, and none wait behind it
-pub read-waits : (g : Given) (w : World) → fits g w ≡ true → (room : List ℕ) → length (waiting w) ≤ length room
+pub read_waits : (g : Given) (w : World) → fits g w ≡ true → (room : List ℕ) → length (waiting w) ≤ length room
     → ((reads g w room).got ≡ got.Count (length (waiting w))) × ((reads g w room).room ≡ waiting w ++ drop (length (waiting w)) room) × (waiting (at_e (reads g w room).e w) ≡ [])
 unfolding reads
-read-waits g w f room h =
+read_waits g w f room h =
     let s = w.e.said in
     let n = s.len - s.pos in
     let m = (in_bounds g w f).fit.mid in

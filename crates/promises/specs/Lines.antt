@@ -10,8 +10,8 @@ use Rattle.text.specs.declared.number.Number.TheVariants as number
 use Rattle.engine.specs.declared.shell.Line.{Line}
 use Rattle.engine.specs.declared.shell.Line.TheVariants as line
 use Rattle.engine.specs.Shell.{done_words, word_of, on_number, with_number, with_id, erase_of, write_of, read_of, boot_of, asked, command, line_of}
-use Rattle.promises.specs.Why.{NoNumber, BehindId, task_words, WordWhy, LineWhy, no_word, no-erase, no_write, no_read, no-boot}
-use Rattle.promises.specs.Picked.{picked, or-false, and_both}
+use Rattle.promises.specs.Why.{NoNumber, BehindId, task_words, WordWhy, LineWhy, no_word, no_erase, no_write, no_read, no_boot}
+use Rattle.promises.specs.Picked.{picked, or_false, and_both}
 
 -- a line is asked, or bad for a reason
 abbrev pub Lined : Type 0 → Line → Type 0
@@ -22,60 +22,60 @@ Lined W (line.Write off len addr) = Unit {0}
 Lined W (line.Read off len addr) = Unit {0}
 Lined W (line.Boot addr len) = Unit {0}
 
-lined-map : {A B : Type 0} → (A → B) → (x : Line) → Lined A x → Lined B x
-lined-map f line.Bad h = f h
-lined-map f line.Done h = tt
-lined-map f (line.Erase start size) h = tt
-lined-map f (line.Write off len addr) h = tt
-lined-map f (line.Read off len addr) h = tt
-lined-map f (line.Boot addr len) h = tt
+lined_map : {A B : Type 0} → (A → B) → (x : Line) → Lined A x → Lined B x
+lined_map f line.Bad h = f h
+lined_map f line.Done h = tt
+lined_map f (line.Erase start size) h = tt
+lined_map f (line.Write off len addr) h = tt
+lined_map f (line.Read off len addr) h = tt
+lined_map f (line.Boot addr len) h = tt
 
-number-lined : (n : ℕ) (f : ℕ → List (List ℕ) → Line) → ((k : ℕ) (ts : List (List ℕ)) → Lined (NoNumber n ts) (f k ts)) → (ts : List (List ℕ))
+number_lined : (n : ℕ) (f : ℕ → List (List ℕ) → Line) → ((k : ℕ) (ts : List (List ℕ)) → Lined (NoNumber n ts) (f k ts)) → (ts : List (List ℕ))
     → Lined (NoNumber (suc n) ts) (with_number f ts)
 unfolding with_number
-number-lined n f h [] = tt
-number-lined n f h (t ∷ ts) = go (number_in t) refl
+number_lined n f h [] = tt
+number_lined n f h (t ∷ ts) = go (number_in t) refl
   where
     go : (x : Number) → number_in t ≡ x → Lined (NoNumber (suc n) (t ∷ ts)) (on_number (λ k. f k ts) x)
-    go (number.Value k) e = lined-map inr (f k ts) (h k ts)
+    go (number.Value k) e = lined_map inr (f k ts) (h k ts)
     go number.Bad e = inl e
 
-id-lined : (n : ℕ) (f : List (List ℕ) → Line) → ((ts : List (List ℕ)) → Lined (NoNumber n ts) (f ts)) → (ts : List (List ℕ)) → Lined (BehindId n ts) (with_id f ts)
+id_lined : (n : ℕ) (f : List (List ℕ) → Line) → ((ts : List (List ℕ)) → Lined (NoNumber n ts) (f ts)) → (ts : List (List ℕ)) → Lined (BehindId n ts) (with_id f ts)
 unfolding with_id
-id-lined n f h [] = tt
-id-lined n f h (t ∷ ts) = h ts
+id_lined n f h [] = tt
+id_lined n f h (t ∷ ts) = h ts
 
-two-lined : (f : ℕ → ℕ → Line) → ((a b : ℕ) → Lined ⊥ (f a b)) → (ts : List (List ℕ)) → Lined (NoNumber 2 ts) (with_number (λ a. with_number (λ b us. f a b)) ts)
-two-lined f h = number-lined 1 _ (λ a. number-lined 0 (λ b us. f a b) (λ b us. h a b))
+two_lined : (f : ℕ → ℕ → Line) → ((a b : ℕ) → Lined ⊥ (f a b)) → (ts : List (List ℕ)) → Lined (NoNumber 2 ts) (with_number (λ a. with_number (λ b us. f a b)) ts)
+two_lined f h = number_lined 1 _ (λ a. number_lined 0 (λ b us. f a b) (λ b us. h a b))
 
-three-lined : (f : ℕ → ℕ → ℕ → Line) → ((a b c : ℕ) → Lined ⊥ (f a b c)) → (ts : List (List ℕ))
+three_lined : (f : ℕ → ℕ → ℕ → Line) → ((a b c : ℕ) → Lined ⊥ (f a b c)) → (ts : List (List ℕ))
     → Lined (NoNumber 3 ts) (with_number (λ a. with_number (λ b. with_number (λ c us. f a b c))) ts)
-three-lined f h = number-lined 2 _ (λ a. two-lined (f a) (h a))
+three_lined f h = number_lined 2 _ (λ a. two_lined (f a) (h a))
 
 -- a word and the tokens behind it
-word-lined : (t : List ℕ) (ts : List (List ℕ)) → Lined (WordWhy t ts) (asked (word_of t) ts)
+word_lined : (t : List ℕ) (ts : List (List ℕ)) → Lined (WordWhy t ts) (asked (word_of t) ts)
 unfolding word_of any_of
-word-lined t ts =
+word_lined t ts =
     picked (λ x. Lined (WordWhy t ts) (asked x ts)) (any_of (same t) done_words) _ _ (λ a. tt)
     (λ a. picked (λ x. Lined (WordWhy t ts) (asked x ts)) (same t (ascii "bderase")) _ _
-    (λ b. of-erase b)
+    (λ b. of_erase b)
     (λ b. picked (λ x. Lined (WordWhy t ts) (asked x ts)) (same t (ascii "bdwrite")) _ _
-    (λ c. of-write c)
+    (λ c. of_write c)
     (λ c. picked (λ x. Lined (WordWhy t ts) (asked x ts)) (same t (ascii "bdread")) _ _
-    (λ d. of-read d)
-    (λ d. picked (λ x. Lined (WordWhy t ts) (asked x ts)) (same t (ascii "get_bootdevice")) _ _ (λ e. of-boot e) (λ e. no_word a (rw (b, c, d, e)))))))
+    (λ d. of_read d)
+    (λ d. picked (λ x. Lined (WordWhy t ts) (asked x ts)) (same t (ascii "get_bootdevice")) _ _ (λ e. of_boot e) (λ e. no_word a (rw (b, c, d, e)))))))
   where
-    of-erase : same t (ascii "bderase") ≡ true → Lined (WordWhy t ts) (with_id erase_of ts)
-    of-erase e = lined-map (no-erase e) (with_id erase_of ts) (id-lined 2 erase_of (two-lined line.Erase (λ a b. tt)) ts)
+    of_erase : same t (ascii "bderase") ≡ true → Lined (WordWhy t ts) (with_id erase_of ts)
+    of_erase e = lined_map (no_erase e) (with_id erase_of ts) (id_lined 2 erase_of (two_lined line.Erase (λ a b. tt)) ts)
 
-    of-write : same t (ascii "bdwrite") ≡ true → Lined (WordWhy t ts) (with_id write_of ts)
-    of-write e = lined-map (no_write e) (with_id write_of ts) (id-lined 3 write_of (three-lined line.Write (λ a b c. tt)) ts)
+    of_write : same t (ascii "bdwrite") ≡ true → Lined (WordWhy t ts) (with_id write_of ts)
+    of_write e = lined_map (no_write e) (with_id write_of ts) (id_lined 3 write_of (three_lined line.Write (λ a b c. tt)) ts)
 
-    of-read : same t (ascii "bdread") ≡ true → Lined (WordWhy t ts) (with_id read_of ts)
-    of-read e = lined-map (no_read e) (with_id read_of ts) (id-lined 3 read_of (three-lined line.Read (λ a b c. tt)) ts)
+    of_read : same t (ascii "bdread") ≡ true → Lined (WordWhy t ts) (with_id read_of ts)
+    of_read e = lined_map (no_read e) (with_id read_of ts) (id_lined 3 read_of (three_lined line.Read (λ a b c. tt)) ts)
 
-    of-boot : same t (ascii "get_bootdevice") ≡ true → Lined (WordWhy t ts) (boot_of ts)
-    of-boot e = lined-map (no-boot e) (boot_of ts) (two-lined line.Boot (λ a b. tt) ts)
+    of_boot : same t (ascii "get_bootdevice") ≡ true → Lined (WordWhy t ts) (boot_of ts)
+    of_boot e = lined_map (no_boot e) (boot_of ts) (two_lined line.Boot (λ a b. tt) ts)
 
 -- every line has a first token, which may be empty
 abbrev Some : List (List ℕ) → Type 0
@@ -86,73 +86,73 @@ first_some : (b : ℕ) (ts : List (List ℕ)) → Some (on_first b ts)
 first_some b [] = tt
 first_some b (t ∷ ts) = tt
 
-tokens-some : (s : List ℕ) → Some (tokens_of s)
+tokens_some : (s : List ℕ) → Some (tokens_of s)
 unfolding tokens_of
-tokens-some [] = tt
-tokens-some (b ∷ s) = picked Some (eqb b 0x20) ([] ∷ tokens_of s) (on_first b (tokens_of s)) (λ e. tt) (λ e. first_some b (tokens_of s))
+tokens_some [] = tt
+tokens_some (b ∷ s) = picked Some (eqb b 0x20) ([] ∷ tokens_of s) (on_first b (tokens_of s)) (λ e. tt) (λ e. first_some b (tokens_of s))
 
-pub line-lined : (s : List ℕ) → Lined (LineWhy (tokens_of s)) (line_of s)
+pub line_lined : (s : List ℕ) → Lined (LineWhy (tokens_of s)) (line_of s)
 unfolding line_of
-line-lined s = go (tokens_of s) (tokens-some s)
+line_lined s = go (tokens_of s) (tokens_some s)
   where
     go : (ts : List (List ℕ)) → Some ts → Lined (LineWhy ts) (command ts)
     go [] h = h
-    go (t ∷ ts) h = word-lined t ts
+    go (t ∷ ts) h = word_lined t ts
 
 -- ---- and for each of these reasons it is refused
 
-number-bad : (n : ℕ) (f : ℕ → List (List ℕ) → Line) → ((k : ℕ) (ts : List (List ℕ)) → NoNumber n ts → f k ts ≡ line.Bad) → (ts : List (List ℕ)) → NoNumber (suc n) ts
+number_bad : (n : ℕ) (f : ℕ → List (List ℕ) → Line) → ((k : ℕ) (ts : List (List ℕ)) → NoNumber n ts → f k ts ≡ line.Bad) → (ts : List (List ℕ)) → NoNumber (suc n) ts
     → with_number f ts ≡ line.Bad
 unfolding with_number
-number-bad n f h [] y = refl
-number-bad n f h (t ∷ ts) (inl e) = ap (on_number (λ k. f k ts)) e
-number-bad n f h (t ∷ ts) (inr y) = go (number_in t)
+number_bad n f h [] y = refl
+number_bad n f h (t ∷ ts) (inl e) = ap (on_number (λ k. f k ts)) e
+number_bad n f h (t ∷ ts) (inr y) = go (number_in t)
   where
     go : (x : Number) → on_number (λ k. f k ts) x ≡ line.Bad
     go (number.Value k) = h k ts y
     go number.Bad = refl
 
-id-bad : (n : ℕ) (f : List (List ℕ) → Line) → ((ts : List (List ℕ)) → NoNumber n ts → f ts ≡ line.Bad) → (ts : List (List ℕ)) → BehindId n ts → with_id f ts ≡ line.Bad
+id_bad : (n : ℕ) (f : List (List ℕ) → Line) → ((ts : List (List ℕ)) → NoNumber n ts → f ts ≡ line.Bad) → (ts : List (List ℕ)) → BehindId n ts → with_id f ts ≡ line.Bad
 unfolding with_id
-id-bad n f h [] y = refl
-id-bad n f h (t ∷ ts) y = h ts y
+id_bad n f h [] y = refl
+id_bad n f h (t ∷ ts) y = h ts y
 
-two-bad : (f : ℕ → ℕ → Line) (ts : List (List ℕ)) → NoNumber 2 ts → with_number (λ a. with_number (λ b us. f a b)) ts ≡ line.Bad
-two-bad f = number-bad 1 _ (λ a. number-bad 0 (λ b us. f a b) (λ b us y. absurd y))
+two_bad : (f : ℕ → ℕ → Line) (ts : List (List ℕ)) → NoNumber 2 ts → with_number (λ a. with_number (λ b us. f a b)) ts ≡ line.Bad
+two_bad f = number_bad 1 _ (λ a. number_bad 0 (λ b us. f a b) (λ b us y. absurd y))
 
-three-bad : (f : ℕ → ℕ → ℕ → Line) (ts : List (List ℕ)) → NoNumber 3 ts → with_number (λ a. with_number (λ b. with_number (λ c us. f a b c))) ts ≡ line.Bad
-three-bad f = number-bad 2 _ (λ a. two-bad (f a))
+three_bad : (f : ℕ → ℕ → ℕ → Line) (ts : List (List ℕ)) → NoNumber 3 ts → with_number (λ a. with_number (λ b. with_number (λ c us. f a b c))) ts ≡ line.Bad
+three_bad f = number_bad 2 _ (λ a. two_bad (f a))
 
 -- a token that is a word
-same-is : (s t : List ℕ) → same s t ≡ true → s ≡ t
+same_is : (s t : List ℕ) → same s t ≡ true → s ≡ t
 unfolding same
-same-is [] [] e = refl
-same-is [] (b ∷ t) e = absurd (let z : ◌≡◌ {A = ℕ} 0 1 = cc in omega arith)
-same-is (a ∷ s) [] e = absurd (let z : ◌≡◌ {A = ℕ} 0 1 = cc in omega arith)
-same-is (a ∷ s) (b ∷ t) e = let h = and_both (eqb a b) (same s t) e in ap₂ ◌∷◌ (eqb-true a b h.0) (same-is s t h.1)
+same_is [] [] e = refl
+same_is [] (b ∷ t) e = absurd (let z : ◌≡◌ {A = ℕ} 0 1 = cc in omega arith)
+same_is (a ∷ s) [] e = absurd (let z : ◌≡◌ {A = ℕ} 0 1 = cc in omega arith)
+same_is (a ∷ s) (b ∷ t) e = let h = and_both (eqb a b) (same s t) e in ap₂ ◌∷◌ (eqb-true a b h.0) (same_is s t h.1)
 
-none-bad : (t : List ℕ) (ts : List (List ℕ)) → any_of (same t) done_words ≡ false → any_of (same t) task_words ≡ false → asked (word_of t) ts ≡ line.Bad
+none_bad : (t : List ℕ) (ts : List (List ℕ)) → any_of (same t) done_words ≡ false → any_of (same t) task_words ≡ false → asked (word_of t) ts ≡ line.Bad
 unfolding word_of any_of
-none-bad t ts p q =
-    let a = or-false (same t (ascii "bderase")) _ q in
-    let b = or-false (same t (ascii "bdwrite")) _ a.1 in
-    let c = or-false (same t (ascii "bdread")) _ b.1 in
-    let d = or-false (same t (ascii "get_bootdevice")) _ c.1 in
+none_bad t ts p q =
+    let a = or_false (same t (ascii "bderase")) _ q in
+    let b = or_false (same t (ascii "bdwrite")) _ a.1 in
+    let c = or_false (same t (ascii "bdread")) _ b.1 in
+    let d = or_false (same t (ascii "get_bootdevice")) _ c.1 in
     rw (p, a.0, b.0, c.0, d.0) refl
 
-word-bad : (t : List ℕ) (ts : List (List ℕ)) → WordWhy t ts → asked (word_of t) ts ≡ line.Bad
+word_bad : (t : List ℕ) (ts : List (List ℕ)) → WordWhy t ts → asked (word_of t) ts ≡ line.Bad
 unfolding word_of any_of same done_words
-word-bad t ts (no_word p q) = none-bad t ts p q
-word-bad t ts (no-erase e y) = ap (λ (x : List ℕ). asked (word_of x) ts) (same-is t (ascii "bderase") e) ∙ id-bad 2 erase_of (two-bad line.Erase) ts y
-word-bad t ts (no_write e y) = ap (λ (x : List ℕ). asked (word_of x) ts) (same-is t (ascii "bdwrite") e) ∙ id-bad 3 write_of (three-bad line.Write) ts y
-word-bad t ts (no_read e y) = ap (λ (x : List ℕ). asked (word_of x) ts) (same-is t (ascii "bdread") e) ∙ id-bad 3 read_of (three-bad line.Read) ts y
-word-bad t ts (no-boot e y) = ap (λ (x : List ℕ). asked (word_of x) ts) (same-is t (ascii "get_bootdevice") e) ∙ two-bad line.Boot ts y
+word_bad t ts (no_word p q) = none_bad t ts p q
+word_bad t ts (no_erase e y) = ap (λ (x : List ℕ). asked (word_of x) ts) (same_is t (ascii "bderase") e) ∙ id_bad 2 erase_of (two_bad line.Erase) ts y
+word_bad t ts (no_write e y) = ap (λ (x : List ℕ). asked (word_of x) ts) (same_is t (ascii "bdwrite") e) ∙ id_bad 3 write_of (three_bad line.Write) ts y
+word_bad t ts (no_read e y) = ap (λ (x : List ℕ). asked (word_of x) ts) (same_is t (ascii "bdread") e) ∙ id_bad 3 read_of (three_bad line.Read) ts y
+word_bad t ts (no_boot e y) = ap (λ (x : List ℕ). asked (word_of x) ts) (same_is t (ascii "get_bootdevice") e) ∙ two_bad line.Boot ts y
 
 -- "empty, `+` alone, any other character and values above 2^64-1 are refused", as are a missing token and a first token that is no command word
-pub line-bad : (s : List ℕ) → LineWhy (tokens_of s) → line_of s ≡ line.Bad
+pub line_bad : (s : List ℕ) → LineWhy (tokens_of s) → line_of s ≡ line.Bad
 unfolding line_of
-line-bad s = go (tokens_of s)
+line_bad s = go (tokens_of s)
   where
     go : (ts : List (List ℕ)) → LineWhy ts → command ts ≡ line.Bad
     go [] h = absurd h
-    go (t ∷ ts) h = word-bad t ts h
+    go (t ∷ ts) h = word_bad t ts h

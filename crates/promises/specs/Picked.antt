@@ -8,13 +8,13 @@ picked P true x y h k = h refl
 picked P false x y h k = k refl
 
 -- one of two tests failed
-pub and-false : (a b : Bool) → (a && b) ≡ false → (a ≡ false) ⊎ (b ≡ false)
-and-false true b e = inr e
-and-false false b e = inl refl
+pub and_false : (a b : Bool) → (a && b) ≡ false → (a ≡ false) ⊎ (b ≡ false)
+and_false true b e = inr e
+and_false false b e = inl refl
 
-pub or-false : (a b : Bool) → (a || b) ≡ false → (a ≡ false) × (b ≡ false)
-or-false true b e = absurd (let z : ◌≡◌ {A = ℕ} 0 1 = cc in omega arith)
-or-false false b e = (refl, e)
+pub or_false : (a b : Bool) → (a || b) ≡ false → (a ≡ false) × (b ≡ false)
+or_false true b e = absurd (let z : ◌≡◌ {A = ℕ} 0 1 = cc in omega arith)
+or_false false b e = (refl, e)
 
 pub or_later : (a b : Bool) → (a || b) ≡ true → a ≡ false → b ≡ true
 or_later true b e n = absurd (let z : ◌≡◌ {A = ℕ} 0 1 = cc in omega arith)

@@ -12,39 +12,39 @@ use Rattle.storage.specs.Open.{nor_store}
 use Rattle.storage.specs.Partition.{end_of}
 use Rattle.storage_laws.specs.Faults.{QuietFrom}
 use Rattle.storage_laws.specs.View.{Shows, view}
-use Rattle.storage_laws.specs.Reasons.{nor-opening}
+use Rattle.storage_laws.specs.Reasons.{nor_opening_lem}
 use Rattle.engine.specs.declared.api.Opening.{Opening}
 use Rattle.engine.specs.World.{Given, World, at_e, dev_of, Out}
 use Rattle.engine.specs.Feed.{feeds}
 use Rattle.engine.specs.Api.{fits, fresh, writes}
-use Rattle.engine_laws.specs.Bounds.{Call, write, read, reset, after, after_all, in_bounds, write-feeds, write-fits, read_fits, reset-fits, nor_opening, nor-opening-is, nor-opening-fits}
-use Rattle.engine_laws.specs.Carry.{feeds-left}
-use Rattle.engine_laws.specs.Split.{Steady, order-steady, On, on-start, on-closed}
-use Rattle.engine_laws.specs.Cut.{Quiet, Room, cut-quiet, quiet-feeds, quiet-steady}
+use Rattle.engine_laws.specs.Bounds.{Call, write, read, reset, after, after_all, in_bounds, write_feeds, write_fits, read_fits, reset_fits, nor_opening, nor_opening_is, nor_opening_fits}
+use Rattle.engine_laws.specs.Carry.{feeds_left}
+use Rattle.engine_laws.specs.Split.{Steady, order_steady, On, on_start, on_closed}
+use Rattle.engine_laws.specs.Cut.{Quiet, Room, cut_quiet, quiet_feeds, quiet_steady}
 use Rattle.engine_laws.specs.Whole.{emptied_at, between_is}
 use Rattle.transport.specs.Port.{idle}
-use Rattle.promises.specs.Runs.{Act, session, acted_all, all_calls, run-calls, session-fits}
-use Rattle.promises.specs.Aside.{read-at-said}
+use Rattle.promises.specs.Runs.{Act, session, acted_all, all_calls, run_calls, session_fits}
+use Rattle.promises.specs.Aside.{read_at_said}
 use Rattle.promises.specs.Frames.{Between, sent_by, NoReset}
-use Rattle.promises.specs.Cuts.{Answered, Smooth, smooth-append, Carried, carried}
-use Rattle.promises.specs.Update.{MetaFrame, SendFrame, Ready, Aimed, Landed, placed_at, meta-done, meta-smooth, send-done, send-smooth}
-use Rattle.promises.specs.Queries.{Question, Queries, last_of, Replied, feeds-fits, queries-done}
+use Rattle.promises.specs.Cuts.{Answered, Smooth, smooth_append, Carried, carried}
+use Rattle.promises.specs.Update.{MetaFrame, SendFrame, Ready, Aimed, Landed, placed_at, meta_done, meta_smooth, send_done, send_smooth}
+use Rattle.promises.specs.Queries.{Question, Queries, last_of, Replied, feeds_fits, queries_done}
 
 -- ---- after any calls at all
 
 module _ (g : Given) (w : World) where
   -- every call leads the storage on
-  call-on : (v : World) (c : Call) → fits g v ≡ true → On g.lent (dev_of w) (dev_of v) → (fits g (after g v c) ≡ true) × On g.lent (dev_of w) (dev_of (after g v c))
-  call-on v (write d) f o =
+  call_on : (v : World) (c : Call) → fits g v ≡ true → On g.lent (dev_of w) (dev_of v) → (fits g (after g v c) ≡ true) × On g.lent (dev_of w) (dev_of (after g v c))
+  call_on v (write d) f o =
       let l = g.lent in
-      (write-fits g v f d, subst (λ (x : Out). On l (dev_of w) (dev_of x.w)) (sym (write-feeds g v f d)) ((feeds-left g (On l (dev_of w)) (on-closed l (dev_of w)) v d).stays.store o))
-  call-on v (read room) f o = (read_fits g v f room, subst (λ (x : World). On g.lent (dev_of w) (dev_of x)) (sym (read-at-said g v f room)) o)
-  call-on v reset f o = (reset-fits g v f, o)
+      (write_fits g v f d, subst (λ (x : Out). On l (dev_of w) (dev_of x.w)) (sym (write_feeds g v f d)) ((feeds_left g (On l (dev_of w)) (on_closed l (dev_of w)) v d).stays.store o))
+  call_on v (read room) f o = (read_fits g v f room, subst (λ (x : World). On g.lent (dev_of w) (dev_of x)) (sym (read_at_said g v f room)) o)
+  call_on v reset f o = (reset_fits g v f, o)
 
   run_on : (cs : List Call) (v : World) → fits g v ≡ true → On g.lent (dev_of w) (dev_of v) → On g.lent (dev_of w) (dev_of (after_all g v cs))
   unfolding after_all
   run_on [] v f o = o
-  run_on (c ∷ cs) v f o = let k = call-on v c f o in run_on cs (after g v c) k.0 k.1
+  run_on (c ∷ cs) v f o = let k = call_on v c f o in run_on cs (after g v c) k.0 k.1
 
 module _ (g : Given) (parts : World) (base stage device : ℕ) (e : (nor_opening g parts base stage device).number ≡ 0) (acts : List Act) where
   -- the engine as it is opened, and after these calls and packets
@@ -54,36 +54,36 @@ module _ (g : Given) (parts : World) (base stage device : ℕ) (e : (nor_opening
   abbrev pub here : World
   here = (acted_all g (session idle opened) acts).w
 
-  pub here-fits : fits g here ≡ true
-  here-fits = session-fits g acts (session idle opened) (nor-opening-fits g parts base stage device e)
+  pub here_fits : fits g here ≡ true
+  here_fits = session_fits g acts (session idle opened) (nor_opening_fits g parts base stage device e)
 
-  opened-steady : Steady g.lent (dev_of opened)
-  opened-steady =
+  opened_steady : Steady g.lent (dev_of opened)
+  opened_steady =
       let s = nor_store (length parts.chip) (end_of g.lists) stage device in
-      let i = nor-opening-is g parts base stage device e in
-      let o = nor-opening g.lent parts.chip parts.buffer g.lists base (length parts.scratch) stage device s i.1 in
-      subst (λ (x : Opening). Steady g.lent (dev_of (at_e x.e parts))) (sym i.0) (order-steady g.lent (dev_of (at_e (fresh base s) parts)) o)
+      let i = nor_opening_is g parts base stage device e in
+      let o = nor_opening_lem g.lent parts.chip parts.buffer g.lists base (length parts.scratch) stage device s i.1 in
+      subst (λ (x : Opening). Steady g.lent (dev_of (at_e x.e parts))) (sym i.0) (order_steady g.lent (dev_of (at_e (fresh base s) parts)) o)
 
   here_on : On g.lent (dev_of opened) (dev_of here)
   here_on =
       let s = session idle opened in
-      subst (λ (x : World). On g.lent (dev_of opened) (dev_of x)) (sym (run-calls g acts s))
-      (run_on g opened (all_calls g s acts) opened (nor-opening-fits g parts base stage device e) (on-start g.lent (dev_of opened) opened-steady))
+      subst (λ (x : World). On g.lent (dev_of opened) (dev_of x)) (sym (run_calls g acts s))
+      (run_on g opened (all_calls g s acts) opened (nor_opening_fits g parts base stage device e) (on_start g.lent (dev_of opened) opened_steady))
 
-  here-shape : here.e.store.shape ≡ (nor_store (length parts.chip) (end_of g.lists) stage device).shape
-  here-shape = here_on.shape ∙ ap (λ (x : Opening). x.e.store.shape) (nor-opening-is g parts base stage device e).0
+  here_shape : here.e.store.shape ≡ (nor_store (length parts.chip) (end_of g.lists) stage device).shape
+  here_shape = here_on.shape ∙ ap (λ (x : Opening). x.e.store.shape) (nor_opening_is g parts base stage device e).0
 
   -- the chip is as long as it was, and the capacity no less
-  pub here-chip : length here.chip ≡ length parts.chip
-  here-chip = here_on.chip
+  pub here_chip : length here.chip ≡ length parts.chip
+  here_chip = here_on.chip
 
-  pub here-capacity : length here.chip ≤ here.e.store.shape.capacity
-  here-capacity = let c = ap (λ (x : Shape). x.capacity) here-shape in omega (arith, here-chip)
+  pub here_capacity : length here.chip ≤ here.e.store.shape.capacity
+  here_capacity = let c = ap (λ (x : Shape). x.capacity) here_shape in omega (arith, here_chip)
 
   -- where no call of the chip from here on is told to fail
-  pub here-quiet : QuietFrom g.lent.faults here.e.store.calls → Quiet g here
-  here-quiet q =
-      let k : opened.e.store.shape.kind ≡ Nor = ap (λ (x : Opening). x.e.store.shape.kind) (nor-opening-is g parts base stage device e).0 in
+  pub here_quiet : QuietFrom g.lent.faults here.e.store.calls → Quiet g here
+  here_quiet q =
+      let k : opened.e.store.shape.kind ≡ Nor = ap (λ (x : Opening). x.e.store.shape.kind) (nor_opening_is g parts base stage device e).0 in
       record {
         kind = ap (λ (x : Shape). x.kind) here_on.shape ∙ k;
         taken = here_on.taken;
@@ -105,7 +105,7 @@ module _ (g : Given) (w : World) (f : fits g w ≡ true) (b : Between w.e) (q : 
   aimed : Aimed B (view (dev_of w)) (feeds g w M)
   aimed =
       let r = (in_bounds g w f).fit.mid in
-      subst (λ (x : World). Aimed B (view (dev_of w)) (feeds g x M)) same (meta-done g w b.left q r.request r.reply B M m)
+      subst (λ (x : World). Aimed B (view (dev_of w)) (feeds g x M)) same (meta_done g w b.left q r.request r.reply B M m)
 
   -- the engine at the metadata's reply
   abbrev v : World
@@ -116,49 +116,49 @@ module _ (g : Given) (w : World) (f : fits g w ≡ true) (b : Between w.e) (q : 
       let a = aimed.ready in
       record { frame = a.frame; left = a.left; valid = a.valid; aimed = a.aimed; target = a.target; held = a.held; chip = refl }
 
-  v-on : On g.lent (dev_of w) (dev_of v)
-  v-on = let l = g.lent in (feeds-left g (On l (dev_of w)) (on-closed l (dev_of w)) w M).stays.store (on-start l (dev_of w) (quiet-steady g w q))
+  v_on : On g.lent (dev_of w) (dev_of v)
+  v_on = let l = g.lent in (feeds_left g (On l (dev_of w)) (on_closed l (dev_of w)) w M).stays.store (on_start l (dev_of w) (quiet_steady g w q))
 
-  v-fits : fits g v ≡ true
-  v-fits = feeds-fits g w M f
+  v_fits : fits g v ≡ true
+  v_fits = feeds_fits g w M f
 
-  v-room : Room g v
-  v-room = λ n. absurd (n ready.left)
+  v_room : Room g v
+  v_room = λ n. absurd (n ready.left)
 
-  v-chip : B + length p ≤ length v.chip
-  v-chip = omega (arith, v-on.chip)
+  v_chip : B + length p ≤ length v.chip
+  v_chip = omega (arith, v_on.chip)
 
-  v-capacity : B + length p ≤ v.e.store.shape.capacity
-  v-capacity = let c = ap (λ (x : Shape). x.capacity) v-on.shape in omega arith
+  v_capacity : B + length p ≤ v.e.store.shape.capacity
+  v_capacity = let c = ap (λ (x : Shape). x.capacity) v_on.shape in omega arith
 
   landed : Landed p (placed_at B p flash) (feeds g w (M ++ D))
   landed =
-      let r = (in_bounds g v v-fits).fit.mid in
+      let r = (in_bounds g v v_fits).fit.mid in
       subst (Landed p (placed_at B p flash))
-      (ap (λ (x : World). feeds g x D) (between_is v ready.frame) ∙ sym (cut-quiet g w M D q aimed.status v-room))
-      (send-done g v B flash ready (quiet-feeds g w M q) r.request r.reply p D d v-chip v-capacity)
+      (ap (λ (x : World). feeds g x D) (between_is v ready.frame) ∙ sym (cut_quiet g w M D q aimed.status v_room))
+      (send_done g v B flash ready (quiet_feeds g w M q) r.request r.reply p D d v_chip v_capacity)
 
-  meta-cut : Smooth g w M
-  meta-cut = let r = (in_bounds g w f).fit.mid in subst (λ (x : World). Smooth g x M) same (meta-smooth g w b.left q r.request r.reply B M m)
+  meta_cut : Smooth g w M
+  meta_cut = let r = (in_bounds g w f).fit.mid in subst (λ (x : World). Smooth g x M) same (meta_smooth g w b.left q r.request r.reply B M m)
 
-  both-cut : Smooth g w (M ++ D)
-  both-cut =
-      let r = (in_bounds g v v-fits).fit.mid in
-      smooth-append g w q M D aimed.status v-room meta-cut
-      (subst (λ (x : World). Smooth g x D) (between_is v ready.frame) (send-smooth g v B flash ready (quiet-feeds g w M q) r.request r.reply p D d v-chip v-capacity))
+  both_cut : Smooth g w (M ++ D)
+  both_cut =
+      let r = (in_bounds g v v_fits).fit.mid in
+      smooth_append g w q M D aimed.status v_room meta_cut
+      (subst (λ (x : World). Smooth g x D) (between_is v ready.frame) (send_smooth g v B flash ready (quiet_feeds g w M q) r.request r.reply p D d v_chip v_capacity))
 
   -- "a metadata frame is accepted with a partition found at B": cut anyhow, every write answers 0, and the reply is OK with no data
   pub metadata : (cs : List Call) (last : List ℕ) → NoReset cs → 0 < length last → sent_by cs ++ last ≡ M
       → Answered g w cs × Aimed B flash (writes g (after_all g w cs) last)
   metadata cs last n k e =
-      let c = carried g w q M last meta-cut k cs n f e in
+      let c = carried g w q M last meta_cut k cs n f e in
       let a : Aimed B flash (feeds g w M) = record { status = aimed.status; waits = aimed.waits; ready = ready } in
       (c.answered, subst (Aimed B flash) (sym c.is) a)
 
   -- what the whole update leaves
   module _ (cs : List Call) (last : List ℕ) (n : NoReset cs) (k : 0 < length last) (e : sent_by cs ++ last ≡ M ++ D) where
-    whole : Carried g w q (M ++ D) last both-cut k w cs
-    whole = carried g w q (M ++ D) last both-cut k cs n f e
+    whole : Carried g w q (M ++ D) last both_cut k w cs
+    whole = carried g w q (M ++ D) last both_cut k cs n f e
 
     -- "once that frame is complete, nothing sent behind it, the waiting reply is OK with no data, flash holds the payload at B, and all
     -- its other bytes are as they were at the metadata's reply"
@@ -169,17 +169,17 @@ module _ (g : Given) (w : World) (f : fits g w ≡ true) (b : Between w.e) (q : 
     abbrev pub behind : World
     behind = (writes g (after_all g w cs) last).w
 
-    behind-is : (feeds g w (M ++ D)).w ≡ behind
-    behind-is = ap (λ (o : Out). o.w) (sym whole.is)
+    behind_is : (feeds g w (M ++ D)).w ≡ behind
+    behind_is = ap (λ (o : Out). o.w) (sym whole.is)
 
     -- "CRC and burn queries sent straight after, reads aside, give the payload's CRC-32 and zero", cut anyhow themselves
     pub queries : (a : Question) (more : List Question) (bytes : List ℕ) → Queries a more bytes → (cs2 : List Call) (last2 : List ℕ) → NoReset cs2 → 0 < length last2
         → sent_by cs2 ++ last2 ≡ bytes → Answered g behind cs2 × Replied p (placed_at B p flash) (last_of a more) (writes g (after_all g behind cs2) last2)
     queries a more bytes x cs2 last2 o j h =
         let u = update.1.updated in
-        let r = subst (Quiet g) behind-is (quiet-feeds g w (M ++ D) q) in
-        let t = subst (λ (y : World). fits g y ≡ true) behind-is (feeds-fits g w (M ++ D) f) in
-        let z = queries-done g p (placed_at B p flash) behind u r t a more bytes x in
+        let r = subst (Quiet g) behind_is (quiet_feeds g w (M ++ D) q) in
+        let t = subst (λ (y : World). fits g y ≡ true) behind_is (feeds_fits g w (M ++ D) f) in
+        let z = queries_done g p (placed_at B p flash) behind u r t a more bytes x in
         let c = carried g behind r bytes last2 z.smooth j cs2 o t h in
         (c.answered, subst (Replied p (placed_at B p flash) (last_of a more)) (sym c.is) z.replied)
 
@@ -199,24 +199,24 @@ module _ (g : Given) (parts : World) (base stage device : ℕ) (e : (nor_opening
   abbrev pub before : List ℕ
   before = (writes g w M).w.chip
 
-  before-is : (feeds g w M).w.chip ≡ before
-  before-is = ap (λ (o : Out). o.w.chip) (sym (write-feeds g w (here-fits g parts base stage device e acts) M))
+  before_is : (feeds g w M).w.chip ≡ before
+  before_is = ap (λ (o : Out). o.w.chip) (sym (write_feeds g w (here_fits g parts base stage device e acts) M))
 
   holds : B + length p ≤ length w.chip
-  holds = omega (arith, here-chip g parts base stage device e acts)
+  holds = omega (arith, here_chip g parts base stage device e acts)
 
   -- every write answers 0, and once the last byte is there the waiting reply is OK with no data, the flash has the payload at B and every
   -- other byte as it was at the metadata's reply
   pub promise : Answered g w cs × Landed p (placed_at B p before) (writes g (after_all g w cs) last)
   promise =
-      subst (λ (x : List ℕ). Answered g w cs × Landed p (placed_at B p x) (writes g (after_all g w cs) last)) before-is
-      (update g w (here-fits g parts base stage device e acts) b (here-quiet g parts base stage device e acts q) (here-capacity g parts base stage device e acts) B p M D m d holds cs last n k c)
+      subst (λ (x : List ℕ). Answered g w cs × Landed p (placed_at B p x) (writes g (after_all g w cs) last)) before_is
+      (update g w (here_fits g parts base stage device e acts) b (here_quiet g parts base stage device e acts q) (here_capacity g parts base stage device e acts) B p M D m d holds cs last n k c)
 
   -- and the CRC and burn queries behind it, reads aside, in any number and order and cut anyhow, tell the payload's CRC-32 and zero
-  pub promise-queries : (a : Question) (more : List Question) (bytes : List ℕ) → Queries a more bytes → (cs2 : List Call) (last2 : List ℕ) → NoReset cs2 → 0 < length last2
+  pub promise_queries : (a : Question) (more : List Question) (bytes : List ℕ) → Queries a more bytes → (cs2 : List Call) (last2 : List ℕ) → NoReset cs2 → 0 < length last2
       → sent_by cs2 ++ last2 ≡ bytes
       → (let v = (writes g (after_all g w cs) last).w in Answered g v cs2 × Replied p (placed_at B p before) (last_of a more) (writes g (after_all g v cs2) last2))
-  promise-queries a more bytes x cs2 last2 o j h =
-      subst (λ (y : List ℕ). let v = (writes g (after_all g w cs) last).w in Answered g v cs2 × Replied p (placed_at B p y) (last_of a more) (writes g (after_all g v cs2) last2)) before-is
-      (queries g w (here-fits g parts base stage device e acts) b (here-quiet g parts base stage device e acts q) (here-capacity g parts base stage device e acts) B p M D m d holds cs last n k c
+  promise_queries a more bytes x cs2 last2 o j h =
+      subst (λ (y : List ℕ). let v = (writes g (after_all g w cs) last).w in Answered g v cs2 × Replied p (placed_at B p y) (last_of a more) (writes g (after_all g v cs2) last2)) before_is
+      (queries g w (here_fits g parts base stage device e acts) b (here_quiet g parts base stage device e acts q) (here_capacity g parts base stage device e acts) B p M D m d holds cs last n k c
       a more bytes x cs2 last2 o j h)

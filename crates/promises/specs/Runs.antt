@@ -1,7 +1,7 @@
 -- A session and its runs: a call is a write, a read, a reset or a packet, and each gets the engine, its rooms and the chip as the call
--- before left them. A packet is a list of the engine's own calls (`packet-calls`), so whatever holds of all runs of those holds of
--- all sessions. In bounds for ever (demand 1; 01, row 9): after an accepted opening no call of any run meets a 9 (`nor-session`,
--- `nand-session`).
+-- before left them. A packet is a list of the engine's own calls (`packet_calls`), so whatever holds of all runs of those holds of
+-- all sessions. In bounds for ever (demand 1; 01, row 9): after an accepted opening no call of any run meets a 9 (`nor_session`,
+-- `nand_session`).
 use Rattle.std.specs.Prelude.{◌≡◌, Bool, true, cond, ℕ, ◌-◌, ◌≤◌, min, leb, eqb, length, take}
 use Rattle.std.proofs.Math.Path.{refl, ap}
 use Rattle.std.proofs.Common.{sym, ap₂, ◌∙◌, le-leb}
@@ -13,7 +13,7 @@ use Rattle.wire.specs.declared.packet.Cbw.TheVariants as cbw
 use Rattle.storage_laws.specs.Bounds.{either}
 use Rattle.engine.specs.World.{Given, World, at_e}
 use Rattle.engine.specs.Api.{fits, writes}
-use Rattle.engine_laws.specs.Bounds.{Call, write, read, reset, after, after_all, Accepted, run_fits, run-accepted, nor_opening, nor-opening-fits, nand_opening, nand-opening-fits}
+use Rattle.engine_laws.specs.Bounds.{Call, write, read, reset, after, after_all, Accepted, run_fits, run_accepted, nor_opening, nor_opening_fits, nand_opening, nand_opening_fits}
 use Rattle.transport.specs.declared.port.Mode.{Mode}
 use Rattle.transport.specs.declared.port.Mode.TheVariants.{Command, Data, Closed}
 use Rattle.transport.specs.declared.port.Port.{Port}
@@ -67,65 +67,65 @@ module _ (g : Given) (w : World) (sent : List ℕ) where
   abbrev Made : Step → List Call → Type 0
   Made t cs = t.w ≡ after_all g w cs
 
-  or-made : (b : Bool) (x y : Step) (k m : List Call) → Made x k → Made y m → Made (cond b x y) (cond b k m)
-  or-made true x y k m h i = h
-  or-made false x y k m h i = i
+  or_made : (b : Bool) (x y : Step) (k m : List Call) → Made x k → Made y m → Made (cond b x y) (cond b k m)
+  or_made true x y k m h i = h
+  or_made false x y k m h i = i
 
-  cbw-made : (c : Cbw) → Made (cbw_by g w sent c) (cbw_calls sent c)
+  cbw_made : (c : Cbw) → Made (cbw_by g w sent c) (cbw_calls sent c)
   unfolding after_all refuses write_stage read_stage ends
-  cbw-made cbw.Bad = refl
-  cbw-made (cbw.Command tag len c) =
-      or-made (eqb c 1) (write_stage g tag len w sent) _ (cond (eqb len 0) (write [] ∷ []) []) _ (or-made (eqb len 0) _ _ (write [] ∷ []) [] refl refl)
-      (or-made (eqb c 2) (read_stage g tag len w sent) _ (read (take (min len 4112) sent) ∷ []) [] refl refl)
+  cbw_made cbw.Bad = refl
+  cbw_made (cbw.Command tag len c) =
+      or_made (eqb c 1) (write_stage g tag len w sent) _ (cond (eqb len 0) (write [] ∷ []) []) _ (or_made (eqb len 0) _ _ (write [] ∷ []) [] refl refl)
+      (or_made (eqb c 2) (read_stage g tag len w sent) _ (read (take (min len 4112) sent) ∷ []) [] refl refl)
 
-  fails-made : Made (fails w sent) (reset ∷ [])
+  fails_made : Made (fails w sent) (reset ∷ [])
   unfolding after_all fails
-  fails-made = refl
+  fails_made = refl
 
   moved_made : (p : Port) (n : ℕ) (bytes : List ℕ) → Made (taken_by p n sent (writes g w bytes)) (write bytes ∷ [])
   unfolding after_all ends
   moved_made p n bytes = either (λ (t : Step). Made t (write bytes ∷ [])) (eqb (p.left - n) 0) _ _ refl refl
 
-  mode-made : (p : Port) (bytes : List ℕ) (m : Mode) → Made (step_by g p w sent bytes m) (mode_calls p sent bytes m)
+  mode_made : (p : Port) (bytes : List ℕ) (m : Mode) → Made (step_by g p w sent bytes m) (mode_calls p sent bytes m)
   unfolding after_all commands moves ends
-  mode-made p bytes Command = or-made (leb (length bytes) 31) (cbw_by g w sent (cbw_of bytes)) _ _ (reset ∷ []) (cbw-made (cbw_of bytes)) fails-made
-  mode-made p bytes Data =
-      or-made (leb (length bytes) (room_of p)) (cond (eqb (length bytes) 0) _ _) (fails w sent) (cond (eqb (length bytes) 0) [] (write bytes ∷ [])) (reset ∷ [])
-      (or-made (eqb (length bytes) 0) _ _ [] (write bytes ∷ []) refl (moved_made p (length bytes) bytes)) fails-made
-  mode-made p bytes Closed = refl
+  mode_made p bytes Command = or_made (leb (length bytes) 31) (cbw_by g w sent (cbw_of bytes)) _ _ (reset ∷ []) (cbw_made (cbw_of bytes)) fails_made
+  mode_made p bytes Data =
+      or_made (leb (length bytes) (room_of p)) (cond (eqb (length bytes) 0) _ _) (fails w sent) (cond (eqb (length bytes) 0) [] (write bytes ∷ [])) (reset ∷ [])
+      (or_made (eqb (length bytes) 0) _ _ [] (write bytes ∷ []) refl (moved_made p (length bytes) bytes)) fails_made
+  mode_made p bytes Closed = refl
 
   -- THE LAW: a packet leaves the engine as its calls do, one after the other
-  pub packet-calls : (p : Port) (bytes : List ℕ) → (steps g p w sent bytes).w ≡ after_all g w (calls_of g p w sent bytes)
+  pub packet_calls : (p : Port) (bytes : List ℕ) → (steps g p w sent bytes).w ≡ after_all g w (calls_of g p w sent bytes)
   unfolding steps after_all
-  packet-calls p bytes = or-made (leb 4125 (length sent) && fits g w) (step_by g p w sent bytes p.mode) _ (mode_calls p sent bytes p.mode) [] (mode-made p bytes p.mode) refl
+  packet_calls p bytes = or_made (leb 4125 (length sent) && fits g w) (step_by g p w sent bytes p.mode) _ (mode_calls p sent bytes p.mode) [] (mode_made p bytes p.mode) refl
 
   -- ---- a packet is answered
 
   abbrev Told : Step → Type 0
   Told t = t.number ≡ 0
 
-  cbw-told : (c : Cbw) → Told (cbw_by g w sent c)
+  cbw_told : (c : Cbw) → Told (cbw_by g w sent c)
   unfolding refuses write_stage read_stage ends
-  cbw-told cbw.Bad = refl
-  cbw-told (cbw.Command tag len c) =
+  cbw_told cbw.Bad = refl
+  cbw_told (cbw.Command tag len c) =
       either Told (eqb c 1) (write_stage g tag len w sent) _ (either Told (eqb len 0) _ _ refl refl) (either Told (eqb c 2) (read_stage g tag len w sent) _ refl refl)
 
   moved_told : (p : Port) (n : ℕ) (bytes : List ℕ) → Told (taken_by p n sent (writes g w bytes))
   unfolding ends
   moved_told p n bytes = either Told (eqb (p.left - n) 0) _ _ refl refl
 
-  mode-told : (p : Port) (bytes : List ℕ) (m : Mode) → Told (step_by g p w sent bytes m)
+  mode_told : (p : Port) (bytes : List ℕ) (m : Mode) → Told (step_by g p w sent bytes m)
   unfolding commands moves fails ends
-  mode-told p bytes Command = either Told (leb (length bytes) 31) (cbw_by g w sent (cbw_of bytes)) _ (cbw-told (cbw_of bytes)) refl
-  mode-told p bytes Data =
+  mode_told p bytes Command = either Told (leb (length bytes) 31) (cbw_by g w sent (cbw_of bytes)) _ (cbw_told (cbw_of bytes)) refl
+  mode_told p bytes Data =
       either Told (leb (length bytes) (room_of p)) _ (fails w sent) (either Told (eqb (length bytes) 0) _ _ refl (moved_told p (length bytes) bytes)) refl
-  mode-told p bytes Closed = refl
+  mode_told p bytes Closed = refl
 
   -- a room of 4,125 bytes, and an engine in bounds: the packet is not refused
-  pub packet-told : (p : Port) (bytes : List ℕ) → 4125 ≤ length sent → fits g w ≡ true → (steps g p w sent bytes).number ≡ 0
+  pub packet_told : (p : Port) (bytes : List ℕ) → 4125 ≤ length sent → fits g w ≡ true → (steps g p w sent bytes).number ≡ 0
   unfolding steps
-  packet-told p bytes h f =
-      ap (λ (b : Bool). (cond b (step_by g p w sent bytes p.mode) (step_of 9 p w 0 false 0 0 sent)).number) (ap₂ ◌&&◌ (le-leb 4125 (length sent) h) f) ∙ mode-told p bytes p.mode
+  packet_told p bytes h f =
+      ap (λ (b : Bool). (cond b (step_by g p w sent bytes p.mode) (step_of 9 p w 0 false 0 0 sent)).number) (ap₂ ◌&&◌ (le-leb 4125 (length sent) h) f) ∙ mode_told p bytes p.mode
 
 -- ---- a run is a run of the engine's calls
 
@@ -137,30 +137,30 @@ unfoldable pub all_calls : Given → Session → List Act → List Call
 all_calls g s [] = []
 all_calls g s (a ∷ more) = calls_in g s a ++ all_calls g (acted g s a) more
 
-after-append : (g : Given) (w : World) (k m : List Call) → after_all g w (k ++ m) ≡ after_all g (after_all g w k) m
+after_append : (g : Given) (w : World) (k m : List Call) → after_all g w (k ++ m) ≡ after_all g (after_all g w k) m
 unfolding after_all
-after-append g w [] m = refl
-after-append g w (c ∷ k) m = after-append g (after g w c) k m
+after_append g w [] m = refl
+after_append g w (c ∷ k) m = after_append g (after g w c) k m
 
-act-calls : (g : Given) (s : Session) (a : Act) → (acted g s a).w ≡ after_all g s.w (calls_in g s a)
+act_calls : (g : Given) (s : Session) (a : Act) → (acted g s a).w ≡ after_all g s.w (calls_in g s a)
 unfolding after_all
-act-calls g s (call c) = refl
-act-calls g s (packet sent p) = packet-calls g s.w sent s.port p
+act_calls g s (call c) = refl
+act_calls g s (packet sent p) = packet_calls g s.w sent s.port p
 
 -- a run of calls and packets leaves the engine as a run of its own calls does: what holds after all of these holds after all of those
-pub run-calls : (g : Given) (acts : List Act) (s : Session) → (acted_all g s acts).w ≡ after_all g s.w (all_calls g s acts)
+pub run_calls : (g : Given) (acts : List Act) (s : Session) → (acted_all g s acts).w ≡ after_all g s.w (all_calls g s acts)
 unfolding acted_all all_calls after_all
-run-calls g [] s = refl
-run-calls g (a ∷ more) s =
-    run-calls g more (acted g s a)
-    ∙ ap (λ (v : World). after_all g v (all_calls g (acted g s a) more)) (act-calls g s a)
-    ∙ sym (after-append g s.w (calls_in g s a) (all_calls g (acted g s a) more))
+run_calls g [] s = refl
+run_calls g (a ∷ more) s =
+    run_calls g more (acted g s a)
+    ∙ ap (λ (v : World). after_all g v (all_calls g (acted g s a) more)) (act_calls g s a)
+    ∙ sym (after_append g s.w (calls_in g s a) (all_calls g (acted g s a) more))
 
 -- so what is promised of writes and reads is promised of packets that make them
 pub run_ends : (g : Given) (acts : List Act) (s : Session) (cs : List Call) (d : List ℕ) → all_calls g s acts ≡ cs ++ (write d ∷ [])
     → (acted_all g s acts).w ≡ (writes g (after_all g s.w cs) d).w
 unfolding after_all
-run_ends g acts s cs d e = run-calls g acts s ∙ ap (after_all g s.w) e ∙ after-append g s.w cs (write d ∷ [])
+run_ends g acts s cs d e = run_calls g acts s ∙ ap (after_all g s.w) e ∙ after_append g s.w cs (write d ∷ [])
 
 -- ---- in bounds for ever
 
@@ -174,29 +174,29 @@ AllTaken g s [] = Unit {0}
 AllTaken g s (a ∷ more) = Taken g s a × AllTaken g (acted g s a) more
 
 taken : (g : Given) (s : Session) (a : Act) → fits g s.w ≡ true → Taken g s a
-taken g s (call c) f = (run-accepted g (c ∷ []) s.w f).0
-taken g s (packet sent p) f = λ h. packet-told g s.w sent s.port p h f
+taken g s (call c) f = (run_accepted g (c ∷ []) s.w f).0
+taken g s (packet sent p) f = λ h. packet_told g s.w sent s.port p h f
 
-acted-fits : (g : Given) (s : Session) (a : Act) → fits g s.w ≡ true → fits g (acted g s a).w ≡ true
-acted-fits g s a f = ap (fits g) (act-calls g s a) ∙ run_fits g (calls_in g s a) s.w f
+acted_fits : (g : Given) (s : Session) (a : Act) → fits g s.w ≡ true → fits g (acted g s a).w ≡ true
+acted_fits g s a f = ap (fits g) (act_calls g s a) ∙ run_fits g (calls_in g s a) s.w f
 
 -- any run from an engine in bounds leaves one in bounds
-pub session-fits : (g : Given) (acts : List Act) (s : Session) → fits g s.w ≡ true → fits g (acted_all g s acts).w ≡ true
-session-fits g acts s f = ap (fits g) (run-calls g acts s) ∙ run_fits g (all_calls g s acts) s.w f
+pub session_fits : (g : Given) (acts : List Act) (s : Session) → fits g s.w ≡ true → fits g (acted_all g s acts).w ≡ true
+session_fits g acts s f = ap (fits g) (run_calls g acts s) ∙ run_fits g (all_calls g s acts) s.w f
 
 -- and none of its calls is refused
-pub session-taken : (g : Given) (acts : List Act) (s : Session) → fits g s.w ≡ true → AllTaken g s acts
-session-taken g [] s f = tt
-session-taken g (a ∷ more) s f = (taken g s a f, session-taken g more (acted g s a) (acted-fits g s a f))
+pub session_taken : (g : Given) (acts : List Act) (s : Session) → fits g s.w ≡ true → AllTaken g s acts
+session_taken g [] s f = tt
+session_taken g (a ∷ more) s f = (taken g s a f, session_taken g more (acted g s a) (acted_fits g s a f))
 
 module _ (g : Given) (w : World) (base stage device : ℕ) (acts : List Act) where
   -- "each call ends, callers owe us no checking": after an accepted opening, over the parts that it was opened with, no run ever meets a 9
-  pub nor-session : (nor_opening g w base stage device).number ≡ 0 → AllTaken g (session idle (at_e (nor_opening g w base stage device).e w)) acts
-  nor-session e = session-taken g acts (session idle (at_e (nor_opening g w base stage device).e w)) (nor-opening-fits g w base stage device e)
+  pub nor_session : (nor_opening g w base stage device).number ≡ 0 → AllTaken g (session idle (at_e (nor_opening g w base stage device).e w)) acts
+  nor_session e = session_taken g acts (session idle (at_e (nor_opening g w base stage device).e w)) (nor_opening_fits g w base stage device e)
 
   -- a NAND too, where the page room that is lent later is one of 4,096 bytes at least
-  pub nand-session : (page pages blocks capacity : ℕ) → 4096 ≤ length w.buffer → (nand_opening g w base stage device page pages blocks capacity).number ≡ 0
+  pub nand_session : (page pages blocks capacity : ℕ) → 4096 ≤ length w.buffer → (nand_opening g w base stage device page pages blocks capacity).number ≡ 0
       → AllTaken g (session idle (at_e (nand_opening g w base stage device page pages blocks capacity).e w)) acts
-  nand-session page pages blocks capacity r e =
-      session-taken g acts (session idle (at_e (nand_opening g w base stage device page pages blocks capacity).e w))
-      (nand-opening-fits g w base stage device page pages blocks capacity e r)
+  nand_session page pages blocks capacity r e =
+      session_taken g acts (session idle (at_e (nand_opening g w base stage device page pages blocks capacity).e w))
+      (nand_opening_fits g w base stage device page pages blocks capacity e r)

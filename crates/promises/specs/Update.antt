@@ -1,6 +1,6 @@
 -- The frames of an update, one by one, on a NOR that makes no error: metadata whose partition is found flush the store and aim the
--- update (`meta-done`); SEND_FWC_DATA and its payload, cut within the payload or not, write it there, flush, and say OK
--- (`send-done`); both may be cut anyhow (`meta-smooth`, `send-smooth`). Promise.antt puts them together.
+-- update (`meta_done`); SEND_FWC_DATA and its payload, cut within the payload or not, write it there, flush, and say OK
+-- (`send_done`); both may be cut anyhow (`meta_smooth`, `send_smooth`). Promise.antt puts them together.
 use Rattle.std.specs.Prelude.{◌≡◌, Bool, true, false, ℕ, ◌+◌, ◌-◌, ◌^◌, ◌≤◌, ◌<◌, ltb, eqb, take, drop}
 use Rattle.std.proofs.Math.Path.{refl, sym, ap, subst}
 use Rattle.std.proofs.Common.{◌∙◌, add-zero, le-leb, eq-eqb, ne_eqb, ltb-true, ltb-false, length-append, take-append-drop, take_all, take_at}
@@ -29,14 +29,14 @@ use Rattle.engine.specs.Exec.{group_of, storing, runs, begun, answered}
 use Rattle.engine.specs.Stream.{burn_by, fed_by, fed, burnt, settled_by, settled, said_of, finishes, streamed_by, streams, started, begins}
 use Rattle.engine.specs.Frame.{next_by, next_of, headed_by, grown}
 use Rattle.engine.specs.Feed.{turns, cut_of, feeds}
-use Rattle.engine.proofs.Replies.{header-length}
-use Rattle.engine.proofs.Feeds.{feed-step, turn-stream}
-use Rattle.engine_laws.specs.Split.{on-start, on-closed, fed-aimed}
-use Rattle.engine_laws.specs.Cut.{Quiet, Room, Streaming, want-at, fed-left, cut-quiet, quiet-on, quiet-steady, within-told, within-stays}
-use Rattle.engine_laws.specs.Whole.{at_said, at_request, emptied_at, then-nil, header-done, roomed, frame-done, lead, header-front}
-use Rattle.promises.specs.Aside.{fed-aside, finishes-over}
-use Rattle.promises.specs.Cuts.{Lays, At, Smooth, front_at, frame-smooth}
-use Rattle.promises.specs.Flash.{flush-still, write-still, free-view}
+use Rattle.engine.proofs.Replies.{header_length}
+use Rattle.engine.proofs.Feeds.{feed_step, turn_stream}
+use Rattle.engine_laws.specs.Split.{on_start, on_closed, fed_aimed}
+use Rattle.engine_laws.specs.Cut.{Quiet, Room, Streaming, want_at, fed_left, cut_quiet, quiet_on, quiet_steady, within_told, within_stays}
+use Rattle.engine_laws.specs.Whole.{at_said, at_request, emptied_at, then_nil, header_done, roomed, frame_done, lead, header_front}
+use Rattle.promises.specs.Aside.{fed_aside, finishes_over}
+use Rattle.promises.specs.Cuts.{Lays, At, Smooth, front_at, frame_smooth}
+use Rattle.promises.specs.Flash.{flush_still, write_still, free_view}
 
 -- ---- a reply that waits
 
@@ -44,22 +44,22 @@ use Rattle.promises.specs.Flash.{flush-still, write-still, free-view}
 abbrev pub waiting : World → List ℕ
 waiting w = take (w.e.said.len - w.e.said.pos) (drop w.e.said.pos w.reply)
 
-reply-length : (c : ℕ) (bytes : List ℕ) → length (reply_by c (ok bytes)) ≡ 16 + length bytes
+reply_length : (c : ℕ) (bytes : List ℕ) → length (reply_by c (ok bytes)) ≡ 16 + length bytes
 unfolding reply_by
-reply-length c bytes =
-    length-append (header_of reply_magic c 0 (length bytes)) bytes ∙ ap (λ (n : ℕ). n + length bytes) (header-length reply_magic c 0 (length bytes))
+reply_length c bytes =
+    length-append (header_of reply_magic c 0 (length bytes)) bytes ∙ ap (λ (n : ℕ). n + length bytes) (header_length reply_magic c 0 (length bytes))
 
 -- a reply that was just laid waits, whole
-pub laid-waits : (c : ℕ) (a : Answer) (w : World) → length (reply_by c a) ≤ length w.reply → waiting (replied c a w) ≡ reply_by c a
+pub laid_waits : (c : ℕ) (a : Answer) (w : World) → length (reply_by c a) ≤ length w.reply → waiting (replied c a w) ≡ reply_by c a
 unfolding replied
-laid-waits c a w i =
+laid_waits c a w i =
     let x = reply_by c a in
     let k : length x - 0 ≡ length x = omega arith in
     ap (λ (j : ℕ). take j (sets w.reply 0 x)) k ∙ ap (take (length x)) (sets-eq x w.reply 0 (omega arith)) ∙ take_at x (drop (0 + length x) w.reply) (length x) refl
 
 -- as one with data does
-pub replied-waits : (c : ℕ) (bytes : List ℕ) (w : World) → 16 + length bytes ≤ length w.reply → waiting (replied c (ok bytes) w) ≡ reply_by c (ok bytes)
-replied-waits c bytes w i = laid-waits c (ok bytes) w (omega (arith, reply-length c bytes))
+pub replied_waits : (c : ℕ) (bytes : List ℕ) (w : World) → 16 + length bytes ≤ length w.reply → waiting (replied c (ok bytes) w) ≡ reply_by c (ok bytes)
+replied_waits c bytes w i = laid_waits c (ok bytes) w (omega (arith, reply_length c bytes))
 
 -- ---- metadata
 
@@ -102,19 +102,19 @@ module _ (g : Given) (w : World) (z : w.e.up.left ≡ 0) (q : Quiet g w) (r : le
   asked = at_e (begun 0x10 w.e) (at_request (roomed w.request k.head k.body) w)
 
   flushed : (e : Dev) × (flushing g.lent (dev_of w) ≡ record { status = 0; count = 0; dev = e }) × (e.chip ≡ view (dev_of w)) × (e.store.held ≡ false)
-  flushed = flush-still g.lent (dev_of w) q
+  flushed = flush_still g.lent (dev_of w) q
 
   -- and leaves it, but for the reply
   abbrev aiming : World
   aiming = at_e (with_up (anew meta true B w.e.up) (at_dev flushed.0 asked).e) (at_dev flushed.0 asked)
 
-  runs-meta : runs g 0x10 k.body asked ≡ set_meta g.lent g.lists k.body asked
+  runs_meta : runs g 0x10 k.body asked ≡ set_meta g.lent g.lists k.body asked
   unfolding runs group_of one_of storing
-  runs-meta = refl
+  runs_meta = refl
 
-  set-done : set_meta g.lent g.lists k.body asked ≡ ran (ok []) aiming
+  set_done : set_meta g.lent g.lists k.body asked ≡ ran (ok []) aiming
   unfolding set_meta aims
-  set-done =
+  set_done =
       let after = after_flush asked (aims g.lists meta) (flushing g.lent (dev_of w)) in
       let v = at_dev flushed.0 asked in
       ap (λ (b : Bool). cond b (cond (is_meta meta) after (ran fail asked)) (ran fail asked)) (le-leb 512 (length k.body) k.least)
@@ -122,30 +122,30 @@ module _ (g : Given) (w : World) (z : w.e.up.left ≡ 0) (q : Quiet g w) (r : le
       ∙ ap (after_flush asked (aims g.lists meta)) flushed.1
       ∙ ap (λ (t : Target). ran (answer_to t) (at_e (with_up (aimed_at meta w.e.up t) v.e) v)) k.found
 
-  meta-is : feeds g (emptied_at w) f ≡ out_of 0 (replied 0x10 (ok []) aiming)
+  meta_is : feeds g (emptied_at w) f ≡ out_of 0 (replied 0x10 (ok []) aiming)
   unfolding ends status_by
-  meta-is =
+  meta_is =
       ap (feeds g (emptied_at w)) k.is
-      ∙ frame-done g w z k.head k.body k.sixteen (omega (arith, k.most)) 0x10 k.status k.says (λ e. omega arith) k.most
-      ∙ ap (answered 0x10) (runs-meta ∙ set-done)
+      ∙ frame_done g w z k.head k.body k.sixteen (omega (arith, k.most)) 0x10 k.status k.says (λ e. omega arith) k.most
+      ∙ ap (answered 0x10) (runs_meta ∙ set_done)
 
-  meta-aimed : Aimed B (view (dev_of w)) (out_of 0 (replied 0x10 (ok []) aiming))
+  meta_aimed : Aimed B (view (dev_of w)) (out_of 0 (replied 0x10 (ok []) aiming))
   unfolding replied
-  meta-aimed =
+  meta_aimed =
       record {
         status = refl;
-        waits = replied-waits 0x10 [] aiming (omega arith);
+        waits = replied_waits 0x10 [] aiming (omega arith);
         ready = record { frame = refl; left = z; valid = refl; aimed = refl; target = refl; held = flushed.3; chip = flushed.2 };
       }
 
   -- THE STEP: the metadata are accepted, what was shown is in flash, and the update is aimed at B
-  pub meta-done : Aimed B (view (dev_of w)) (feeds g (emptied_at w) f)
-  meta-done = subst (Aimed B (view (dev_of w))) (sym meta-is) meta-aimed
+  pub meta_done : Aimed B (view (dev_of w)) (feeds g (emptied_at w) f)
+  meta_done = subst (Aimed B (view (dev_of w))) (sym meta_is) meta_aimed
 
-  pub meta-smooth : Smooth g (emptied_at w) f
-  meta-smooth =
+  pub meta_smooth : Smooth g (emptied_at w) f
+  meta_smooth =
       subst (Smooth g (emptied_at w)) (sym k.is)
-      (frame-smooth g w z k.head k.body k.sixteen (omega (arith, k.most)) 0x10 k.status k.says (λ e. omega arith) k.most)
+      (frame_smooth g w z k.head k.body k.sixteen (omega (arith, k.most)) 0x10 k.status k.says (λ e. omega arith) k.most)
 
 -- ---- the end of a stream
 
@@ -153,35 +153,35 @@ module _ (g : Given) (u : World) where
   -- with nothing short, the end of a stream flushes and says OK
   module _ (q : Quiet g u) (b : u.e.up.burn ≡ 0) where
     closing : (e : Dev) × (flushing g.lent (dev_of u) ≡ record { status = 0; count = 0; dev = e }) × (e.chip ≡ view (dev_of u)) × (e.store.held ≡ false)
-    closing = flush-still g.lent (dev_of u) q
+    closing = flush_still g.lent (dev_of u) q
 
     -- the world behind it, but for the reply
     abbrev closed : World
     closed = at_e (with_up (burnt 0 u.e.up) (at_dev closing.0 u).e) (at_dev closing.0 u)
 
-    finish-is : finishes g.lent u ≡ out_of 0 (replied 0x12 (ok []) closed)
+    finish_is : finishes g.lent u ≡ out_of 0 (replied 0x12 (ok []) closed)
     unfolding finishes settled
-    finish-is =
+    finish_is =
         ap said_of (ap (λ (t : Bool). cond t (settled_by u (flushing g.lent (dev_of u))) u) (eq-eqb u.e.up.burn 0 b) ∙ ap (settled_by u) closing.1)
 
   -- what is left of a payload is one turn, and the end
-  pub stream-whole : (p : List ℕ) → 0 < length p → u.e.up.left ≡ length p → feeds g u p ≡ finishes g.lent (fed g.lent p u)
+  pub stream_whole : (p : List ℕ) → 0 < length p → u.e.up.left ≡ length p → feeds g u p ≡ finishes g.lent (fed g.lent p u)
   unfolding streams
-  stream-whole p h i =
+  stream_whole p h i =
       let l = g.lent in
       let v = fed l p u in
       let n : u.e.up.left ≡ 0 → ⊥ = λ e. omega arith in
-      let j = want-at u.e.up.left u.e.frame n in
-      let o : v.e.up.left ≡ 0 = fed-left g p [] u ∙ omega arith in
-      feed-step g u p h
-      ∙ rw (take_all (cut_of u) p (omega arith), drop_of_length-le p {i = cut_of u} (omega arith)) (then-nil g (turns g p u))
-      ∙ sym (turn-stream g p u n)
+      let j = want_at u.e.up.left u.e.frame n in
+      let o : v.e.up.left ≡ 0 = fed_left g p [] u ∙ omega arith in
+      feed_step g u p h
+      ∙ rw (take_all (cut_of u) p (omega arith), drop_of_length-le p {i = cut_of u} (omega arith)) (then_nil g (turns g p u))
+      ∙ sym (turn_stream g p u n)
       ∙ ap (λ (t : Bool). cond t (finishes l v) (out_of 0 v)) (eq-eqb v.e.up.left 0 o)
 
 -- and lays a reply
-pub stream-lays : (g : Given) (u : World) (p : List ℕ) → 0 < length p → u.e.up.left ≡ length p → Lays g u p
-stream-lays g u p h i s =
-    stream-whole g (at_said s u) p h i ∙ ap (finishes g.lent) (fed-aside s g.lent p u) ∙ finishes-over s g.lent (fed g.lent p u) ∙ sym (stream-whole g u p h i)
+pub stream_lays : (g : Given) (u : World) (p : List ℕ) → 0 < length p → u.e.up.left ≡ length p → Lays g u p
+stream_lays g u p h i s =
+    stream_whole g (at_said s u) p h i ∙ ap (finishes g.lent) (fed_aside s g.lent p u) ∙ finishes_over s g.lent (fed g.lent p u) ∙ sym (stream_whole g u p h i)
 
 -- ---- SEND_FWC_DATA
 
@@ -211,8 +211,8 @@ pub record Landed (p c : List ℕ) (o : Out) : Type 0 where
 abbrev pub placed_at : ℕ → List ℕ → List ℕ → List ℕ
 placed_at B p c = take B c ++ p ++ drop (B + length p) c
 
-placed-none : (B : ℕ) (c : List ℕ) → placed_at B [] c ≡ c
-placed-none B c = rw (append-nil (take B c), add-zero B) (take-append-drop B c)
+placed_none : (B : ℕ) (c : List ℕ) → placed_at B [] c ≡ c
+placed_none B c = rw (append-nil (take B c), add-zero B) (take-append-drop B c)
 
 -- the end of a stream that took every byte
 landed : (g : Given) (u : World) (p : List ℕ) → Quiet g u → length u.reply ≡ 4112 → u.e.frame ≡ record { len = 0; total = 0 } → u.e.up.left ≡ 0 → u.e.up.crc ≡ crc32 p
@@ -220,10 +220,10 @@ landed : (g : Given) (u : World) (p : List ℕ) → Quiet g u → length u.reply
 unfolding replied
 landed g u p q y f l c b =
     let k = closing g u q b in
-    subst (Landed p (view (dev_of u))) (sym (finish-is g u q b))
+    subst (Landed p (view (dev_of u))) (sym (finish_is g u q b))
     (record {
       status = refl;
-      waits = replied-waits 0x12 [] (closed g u q b) (omega arith);
+      waits = replied_waits 0x12 [] (closed g u q b) (omega arith);
       updated = record { frame = f; left = l; crc = c; burn = refl; held = k.3; chip = k.2 };
     })
 
@@ -233,40 +233,40 @@ module _ (g : Given) (v : World) (B : ℕ) (c : List ℕ) (a : Ready B c v) (q :
   abbrev opened : World
   opened = at_e (with_up (started (length p) v.e.up) (emptied v.e)) (at_request (sets v.request 0 k.head) v)
 
-  short-payload : length p < 2 ^ 32
+  short_payload : length p < 2 ^ 32
   unfolding good
-  short-payload =
+  short_payload =
       let d = dev_of v in
-      omega (arith, ((sound d.store (length d.chip) (length g.lent.marks) (length d.buf) q.taken).nor q.kind).chip-high)
+      omega (arith, ((sound d.store (length d.chip) (length g.lent.marks) (length d.buf) q.taken).nor q.kind).chip_high)
 
-  send-next : next_of k.head ≡ Send (length p)
+  send_next : next_of k.head ≡ Send (length p)
   unfolding next_of
-  send-next = ap next_by k.says ∙ ap Send (omega (arith, short-payload))
+  send_next = ap next_by k.says ∙ ap Send (omega (arith, short_payload))
 
-  send-head : feeds g (emptied_at v) k.head ≡ streamed_by g.lent opened
+  send_head : feeds g (emptied_at v) k.head ≡ streamed_by g.lent opened
   unfolding begins
-  send-head =
-      header-done g v a.left k.head k.sixteen (omega arith) ∙ ap (headed_by g (grown (emptied_at v) k.head)) send-next
+  send_head =
+      header_done g v a.left k.head k.sixteen (omega arith) ∙ ap (headed_by g (grown (emptied_at v) k.head)) send_next
       ∙ ap (λ (b : Bool). cond b (streamed_by g.lent opened) (ends 0x12 fail (at_request (sets v.request 0 k.head) (emptied_at v)))) a.valid
 
   shown : view (dev_of v) ≡ c
-  shown = free-view g.lent (dev_of v) q a.held ∙ a.chip
+  shown = free_view g.lent (dev_of v) q a.held ∙ a.chip
 
   -- the payload is none
   none_is : p ≡ [] → feeds g (emptied_at v) k.head ≡ finishes g.lent opened
-  none_is e = send-head ∙ ap (λ (b : Bool). cond b (finishes g.lent opened) (out_of 0 opened)) (eq-eqb (length p) 0 (ap length e))
+  none_is e = send_head ∙ ap (λ (b : Bool). cond b (finishes g.lent opened) (out_of 0 opened)) (eq-eqb (length p) 0 (ap length e))
 
-  send-none : p ≡ [] → Landed p (placed_at B p c) (feeds g (emptied_at v) k.head)
+  send_none : p ≡ [] → Landed p (placed_at B p c) (feeds g (emptied_at v) k.head)
   unfolding crc32
-  send-none e =
+  send_none e =
       let n : length p ≡ 0 = ap length e in
-      let s : view (dev_of v) ≡ placed_at B p c = shown ∙ sym (placed-none B c) ∙ ap (λ (x : List ℕ). placed_at B x c) (sym e) in
+      let s : view (dev_of v) ≡ placed_at B p c = shown ∙ sym (placed_none B c) ∙ ap (λ (x : List ℕ). placed_at B x c) (sym e) in
       subst (Landed p (placed_at B p c)) (sym (none_is e)) (subst (λ (x : List ℕ). Landed p x (finishes g.lent opened)) s (landed g opened p q y refl n (sym p9 ∙ ap crc32 (sym e)) refl))
 
   -- the payload is some
   module _ (s : 0 < length p) where
-    send-open : feeds g (emptied_at v) k.head ≡ out_of 0 opened
-    send-open = send-head ∙ ap (λ (b : Bool). cond b (finishes g.lent opened) (out_of 0 opened)) (ne_eqb (length p) 0 (λ e. omega arith))
+    send_open : feeds g (emptied_at v) k.head ≡ out_of 0 opened
+    send_open = send_head ∙ ap (λ (b : Bool). cond b (finishes g.lent opened) (out_of 0 opened)) (ne_eqb (length p) 0 (λ e. omega arith))
 
     streaming : Streaming g opened
     streaming =
@@ -274,11 +274,11 @@ module _ (g : Given) (v : World) (B : ℕ) (c : List ℕ) (a : Ready B c v) (q :
         record { quiet = q; going = λ e. omega arith; room = λ _. record { low = omega arith; short = omega arith } }
 
     room_open : Room g (feeds g (emptied_at v) k.head).w
-    room_open = subst (λ (o : Out). Room g o.w) (sym send-open) (λ n t. streaming.room t)
+    room_open = subst (λ (o : Out). Room g o.w) (sym send_open) (λ n t. streaming.room t)
 
-    send-cut : (x : List ℕ) → feeds g (emptied_at v) (k.head ++ x) ≡ feeds g opened x
-    send-cut x =
-        cut-quiet g (emptied_at v) k.head x q (ap (λ (o : Out). o.status) send-open) room_open ∙ ap (λ (o : Out). feeds g o.w x) send-open
+    send_cut : (x : List ℕ) → feeds g (emptied_at v) (k.head ++ x) ≡ feeds g opened x
+    send_cut x =
+        cut_quiet g (emptied_at v) k.head x q (ap (λ (o : Out). o.status) send_open) room_open ∙ ap (λ (o : Out). feeds g o.w x) send_open
 
     -- all of it is stored
     abbrev all : Told
@@ -288,81 +288,81 @@ module _ (g : Given) (v : World) (B : ℕ) (c : List ℕ) (a : Ready B c v) (q :
     full = fed_by opened p all
 
     full_is : feeds g opened p ≡ finishes g.lent full
-    full_is = stream-whole g opened p s refl ∙ ap (finishes g.lent) (fed-aimed g.lent opened p a.aimed)
+    full_is = stream_whole g opened p s refl ∙ ap (finishes g.lent) (fed_aimed g.lent opened p a.aimed)
 
-    full-quiet : Quiet g full
-    full-quiet = let d = dev_of v in quiet-on g opened full q ((on-closed g.lent d).write (v.e.up.target + 0) p d (on-start g.lent d (quiet-steady g v q)))
+    full_quiet : Quiet g full
+    full_quiet = let d = dev_of v in quiet_on g opened full q ((on_closed g.lent d).write (v.e.up.target + 0) p d (on_start g.lent d (quiet_steady g v q)))
 
     stored : (all.count ≡ length p) × (view all.dev ≡ placed_at (v.e.up.target + 0) p (view (dev_of v)))
-    stored = let t = a.target in write-still g.lent (dev_of v) q (v.e.up.target + 0) p (omega arith) (omega arith)
+    stored = let t = a.target in write_still g.lent (dev_of v) q (v.e.up.target + 0) p (omega arith) (omega arith)
 
-    full-burn : burn_by 0 all.count (length p) ≡ 0
+    full_burn : burn_by 0 all.count (length p) ≡ 0
     unfolding burn_by
-    full-burn = ap (λ (b : Bool). cond b 0 (cond (eqb 0 0) 1 0)) (eq-eqb all.count (length p) stored.0)
+    full_burn = ap (λ (b : Bool). cond b 0 (cond (eqb 0 0) 1 0)) (eq-eqb all.count (length p) stored.0)
 
-    send-some : Landed p (placed_at B p c) (feeds g (emptied_at v) (k.head ++ p))
+    send_some : Landed p (placed_at B p c) (feeds g (emptied_at v) (k.head ++ p))
     unfolding crc32
-    send-some =
+    send_some =
         let t : v.e.up.target + 0 ≡ B = omega (arith, a.target) in
         let e : view all.dev ≡ placed_at B p c = stored.1 ∙ rw (t, shown) in
         let n : length p - length p ≡ 0 = omega arith in
-        subst (Landed p (placed_at B p c)) (sym (send-cut p ∙ full_is))
-        (subst (λ (x : List ℕ). Landed p x (finishes g.lent full)) e (landed g full p full-quiet y refl n refl full-burn))
+        subst (Landed p (placed_at B p c)) (sym (send_cut p ∙ full_is))
+        (subst (λ (x : List ℕ). Landed p x (finishes g.lent full)) e (landed g full p full_quiet y refl n refl full_burn))
 
     -- a front that reaches into the payload
-    payload-at : (x b : List ℕ) → x ++ b ≡ p → 0 < length b → At g (emptied_at v) (k.head ++ x) b
-    payload-at x b e h =
+    payload_at : (x b : List ℕ) → x ++ b ≡ p → 0 < length b → At g (emptied_at v) (k.head ++ x) b
+    payload_at x b e h =
         let l : length x + length b ≡ length p = sym (length-append x b) ∙ ap length e in
         let n : length x < length p = omega arith in
-        let d = within-told g opened x n in
-        let o = sym (send-cut x) in
+        let d = within_told g opened x n in
+        let o = sym (send_cut x) in
         record {
           fine = ap (λ (o : Out). o.status) (sym o) ∙ d.0;
-          room = subst (λ (o : Out). Room g o.w) o (λ m t. (within-stays g opened x streaming n).room t);
-          lays = subst (λ (o : Out). Lays g o.w b) o (stream-lays g (feeds g opened x).w b h (d.1.left ∙ omega arith));
+          room = subst (λ (o : Out). Room g o.w) o (λ m t. (within_stays g opened x streaming n).room t);
+          lays = subst (λ (o : Out). Lays g o.w b) o (stream_lays g (feeds g opened x).w b h (d.1.left ∙ omega arith));
         }
 
   -- THE STEP: the payload is in flash at B, every other byte as it was, and the reply is OK with no data
-  pub send-done : Landed p (placed_at B p c) (feeds g (emptied_at v) f)
-  send-done = subst (λ (x : List ℕ). Landed p (placed_at B p c) (feeds g (emptied_at v) x)) (sym k.is) (go p refl)
+  pub send_done : Landed p (placed_at B p c) (feeds g (emptied_at v) f)
+  send_done = subst (λ (x : List ℕ). Landed p (placed_at B p c) (feeds g (emptied_at v) x)) (sym k.is) (go p refl)
     where
       go : (x : List ℕ) → p ≡ x → Landed p (placed_at B p c) (feeds g (emptied_at v) (k.head ++ p))
       go [] e =
-          subst (λ (x : List ℕ). Landed p (placed_at B p c) (feeds g (emptied_at v) x)) (sym (append-nil k.head) ∙ ap (λ (x : List ℕ). k.head ++ x) (sym e)) (send-none e)
-      go (x ∷ xs) e = send-some (omega (arith, ap length e))
+          subst (λ (x : List ℕ). Landed p (placed_at B p c) (feeds g (emptied_at v) x)) (sym (append-nil k.head) ∙ ap (λ (x : List ℕ). k.head ++ x) (sym e)) (send_none e)
+      go (x ∷ xs) e = send_some (omega (arith, ap length e))
 
-ready-aside : (s : Said) (B : ℕ) (c : List ℕ) (v : World) → Ready B c v → Ready B c (at_said s v)
-ready-aside s B c v a =
+ready_aside : (s : Said) (B : ℕ) (c : List ℕ) (v : World) → Ready B c v → Ready B c (at_said s v)
+ready_aside s B c v a =
     record { frame = a.frame; left = a.left; valid = a.valid; aimed = a.aimed; target = a.target; held = a.held; chip = a.chip }
 
 module _ (g : Given) (v : World) (B : ℕ) (c : List ℕ) (a : Ready B c v) (q : Quiet g v) (r : length v.request ≡ 8208) (y : length v.reply ≡ 4112) (p f : List ℕ) (k : SendFrame p f)
     (i : B + length p ≤ length v.chip) (j : B + length p ≤ v.e.store.shape.capacity) where
-  send-lays : Lays g (emptied_at v) (k.head ++ p)
-  send-lays s = go p refl
+  send_lays : Lays g (emptied_at v) (k.head ++ p)
+  send_lays s = go p refl
     where
       go : (x : List ℕ) → p ≡ x → feeds g (at_said s (emptied_at v)) (k.head ++ p) ≡ feeds g (emptied_at v) (k.head ++ p)
       go [] e =
           let m : k.head ++ p ≡ k.head = ap (λ (x : List ℕ). k.head ++ x) e ∙ append-nil k.head in
           ap (feeds g (emptied_at (at_said s v))) m
-          ∙ none_is g (at_said s v) B c (ready-aside s B c v a) q r y p f k i j e
-          ∙ finishes-over s g.lent (opened g v B c a q r y p f k i j)
+          ∙ none_is g (at_said s v) B c (ready_aside s B c v a) q r y p f k i j e
+          ∙ finishes_over s g.lent (opened g v B c a q r y p f k i j)
           ∙ sym (none_is g v B c a q r y p f k i j e)
           ∙ ap (feeds g (emptied_at v)) (sym m)
       go (x ∷ xs) e =
           let n : 0 < length p = omega (arith, ap length e) in
-          send-cut g (at_said s v) B c (ready-aside s B c v a) q r y p f k i j n p
-          ∙ stream-lays g (opened g v B c a q r y p f k i j) p n refl s
-          ∙ sym (send-cut g v B c a q r y p f k i j n p)
+          send_cut g (at_said s v) B c (ready_aside s B c v a) q r y p f k i j n p
+          ∙ stream_lays g (opened g v B c a q r y p f k i j) p n refl s
+          ∙ sym (send_cut g v B c a q r y p f k i j n p)
 
   -- and its frame may be cut anyhow
-  pub send-smooth : Smooth g (emptied_at v) f
-  send-smooth x b e h = go (ltb (length x) 16) refl
+  pub send_smooth : Smooth g (emptied_at v) f
+  send_smooth x b e h = go (ltb (length x) 16) refl
     where
       go : (t : Bool) → ltb (length x) 16 ≡ t → At g (emptied_at v) x b
       go true t =
-          front_at g v a.left x b (header-front g v a.left x (ltb-true (length x) 16 t)) (subst (Lays g (emptied_at v)) (sym (e ∙ k.is)) send-lays)
+          front_at g v a.left x b (header_front g v a.left x (ltb-true (length x) 16 t)) (subst (Lays g (emptied_at v)) (sym (e ∙ k.is)) send_lays)
       go false t =
           let d = lead x b k.head p (e ∙ k.is) (omega (arith, ltb-false (length x) 16 t, k.sixteen)) in
           let z = drop (length k.head) x in
           let l : length z + length b ≡ length p = sym (length-append z b) ∙ ap length d.1 in
-          subst (λ (m : List ℕ). At g (emptied_at v) m b) (sym d.0) (payload-at g v B c a q r y p f k i j (omega arith) z b d.1 h)
+          subst (λ (m : List ℕ). At g (emptied_at v) m b) (sym d.0) (payload_at g v B c a q r y p f k i j (omega arith) z b d.1 h)

@@ -46,10 +46,10 @@ task_words = ascii "bderase" ∷ ascii "bdwrite" ∷ ascii "bdread" ∷ ascii "g
 -- number ("empty, `+` alone, any other character and values above 2^64-1 are refused")
 pub data WordWhy (t : List ℕ) (ts : List (List ℕ)) : Type 0 where
   no_word : any_of (same t) done_words ≡ false → any_of (same t) task_words ≡ false → WordWhy t ts
-  no-erase : same t (ascii "bderase") ≡ true → BehindId 2 ts → WordWhy t ts
+  no_erase : same t (ascii "bderase") ≡ true → BehindId 2 ts → WordWhy t ts
   no_write : same t (ascii "bdwrite") ≡ true → BehindId 3 ts → WordWhy t ts
   no_read : same t (ascii "bdread") ≡ true → BehindId 3 ts → WordWhy t ts
-  no-boot : same t (ascii "get_bootdevice") ≡ true → NoNumber 2 ts → WordWhy t ts
+  no_boot : same t (ascii "get_bootdevice") ≡ true → NoNumber 2 ts → WordWhy t ts
 
 -- of the tokens of a line, of which there is a first one
 abbrev pub LineWhy : List (List ℕ) → Type 0
@@ -81,14 +81,14 @@ Unerased l start size d = (erasing l start size d).status ≡ 0 → ⊥
 
 -- why a write out of scratch fails: its window is refused, it came up short, or the flush behind it failed
 pub data OutWhy (l : Lent) (w : World) (off len addr : ℕ) : Type 0 where
-  out-window : Off w addr → OutWhy l w off len addr
-  out-short : ((out_told l w off len addr).count ≡ cut_to w addr len → ⊥) → OutWhy l w off len addr
-  out-flush : Unflushed l (out_told l w off len addr).dev → OutWhy l w off len addr
+  out_window : Off w addr → OutWhy l w off len addr
+  out_short : ((out_told l w off len addr).count ≡ cut_to w addr len → ⊥) → OutWhy l w off len addr
+  out_flush : Unflushed l (out_told l w off len addr).dev → OutWhy l w off len addr
 
 -- why a read into scratch fails: its window is refused, or it came up short
 pub data InWhy (l : Lent) (w : World) (off len addr : ℕ) : Type 0 where
   in_window : Off w addr → InWhy l w off len addr
-  in-short : ((in_told l w off len addr).count ≡ cut_to w addr len → ⊥) → InWhy l w off len addr
+  in_short : ((in_told l w off len addr).count ≡ cut_to w addr len → ⊥) → InWhy l w off len addr
 
 -- why a line that asks for something fails
 abbrev pub RunWhy : Lent → World → Line → Type 0
@@ -114,41 +114,41 @@ meta_in bytes = drop (length bytes - 512) bytes
 pub data Why (g : Given) (c : ℕ) (bytes : List ℕ) (w : World) : Type 0 where
   -- WRITE: "first eight payload bytes give address and length, or the command is refused; the window must lie inside scratch"; and
   -- fewer bytes behind the pair than it says, as in `execute_inner`
-  write-cut : c ≡ 0x02 → length bytes < 8 → Why g c bytes w
-  write-beyond : c ≡ 0x02 → Beyond w (word_at 4 bytes 0) (word_at 4 bytes 4) → Why g c bytes w
-  write-less : c ≡ 0x02 → length bytes < 8 + word_at 4 bytes 4 → Why g c bytes w
+  write_cut : c ≡ 0x02 → length bytes < 8 → Why g c bytes w
+  write_beyond : c ≡ 0x02 → Beyond w (word_at 4 bytes 0) (word_at 4 bytes 4) → Why g c bytes w
+  write_less : c ≡ 0x02 → length bytes < 8 + word_at 4 bytes 4 → Why g c bytes w
   -- READ, as WRITE
-  read-cut : c ≡ 0x03 → length bytes < 8 → Why g c bytes w
-  read-beyond : c ≡ 0x03 → Beyond w (word_at 4 bytes 0) (word_at 4 bytes 4) → Why g c bytes w
+  read_cut : c ≡ 0x03 → length bytes < 8 → Why g c bytes w
+  read_beyond : c ≡ 0x03 → Beyond w (word_at 4 bytes 0) (word_at 4 bytes 4) → Why g c bytes w
   -- RUN_SHELL_STR: "the line is a u32 length and that many UTF-8 bytes"
-  shell-cut : c ≡ 0x05 → length bytes < 4 → Why g c bytes w
-  shell-less : c ≡ 0x05 → length bytes < 4 + word_at 4 bytes 0 → Why g c bytes w
-  shell-text : c ≡ 0x05 → is_utf8 (line_in bytes) ≡ false → Why g c bytes w
-  shell-line : c ≡ 0x05 → LineWhy (tokens_of (line_in bytes)) → Why g c bytes w
-  shell-run : c ≡ 0x05 → RunWhy g.lent w (line_of (line_in bytes)) → Why g c bytes w
+  shell_cut : c ≡ 0x05 → length bytes < 4 → Why g c bytes w
+  shell_less : c ≡ 0x05 → length bytes < 4 + word_at 4 bytes 0 → Why g c bytes w
+  shell_text : c ≡ 0x05 → is_utf8 (line_in bytes) ≡ false → Why g c bytes w
+  shell_line_lem : c ≡ 0x05 → LineWhy (tokens_of (line_in bytes)) → Why g c bytes w
+  shell_run : c ≡ 0x05 → RunWhy g.lent w (line_of (line_in bytes)) → Why g c bytes w
   -- SET_UPG_END: the flush failed, as in `execute_inner`
-  end-flush : c ≡ 0x0B → Unflushed g.lent (dev_of w) → Why g c bytes w
+  end_flush : c ≡ 0x0B → Unflushed g.lent (dev_of w) → Why g c bytes w
   -- SET_FWC_META "in order: 512 bytes at least, of which the last 512 count; `META`; flush; .. Unknown: fails"
-  meta-cut : c ≡ 0x10 → length bytes < 512 → Why g c bytes w
-  meta-magic : c ≡ 0x10 → is_meta (meta_in bytes) ≡ false → Why g c bytes w
-  meta-flush : c ≡ 0x10 → Unflushed g.lent (dev_of w) → Why g c bytes w
-  meta-unknown : c ≡ 0x10 → (partition_field (meta_in bytes) ≡ [] → ⊥) → ((o : ℕ) → lookup g.lists (partition_field (meta_in bytes)) ≡ found.At o → ⊥)
+  meta_cut : c ≡ 0x10 → length bytes < 512 → Why g c bytes w
+  meta_magic : c ≡ 0x10 → is_meta (meta_in bytes) ≡ false → Why g c bytes w
+  meta_flush : c ≡ 0x10 → Unflushed g.lent (dev_of w) → Why g c bytes w
+  meta_unknown : c ≡ 0x10 → (partition_field (meta_in bytes) ≡ [] → ⊥) → ((o : ℕ) → lookup g.lists (partition_field (meta_in bytes)) ≡ found.At o → ⊥)
       → Why g c bytes w
   -- GET_FWC_CRC: the flush failed, as in `execute_inner`
-  crc-flush : c ≡ 0x13 → Unflushed g.lent (dev_of w) → Why g c bytes w
+  crc_flush : c ≡ 0x13 → Unflushed g.lent (dev_of w) → Why g c bytes w
   -- the partition table's text: an empty one, as in `execute_inner`
   table_none : c ≡ 0x17 → g.table ≡ [] → Why g c bytes w
   -- READ_FWC_DATA: its pair is cut, as in `execute_inner`
-  fwc-cut : c ≡ 0x18 → length bytes < 8 → Why g c bytes w
+  fwc_cut : c ≡ 0x18 → length bytes < 8 → Why g c bytes w
   -- "ERASE_STORAGE needs 24 bytes, flushes, then erases"
-  erase-cut : c ≡ 0x1B → length bytes < 24 → Why g c bytes w
-  erase-flush : c ≡ 0x1B → Unflushed g.lent (dev_of w) → Why g c bytes w
-  erase-failed : c ≡ 0x1B → Unerased g.lent (word_at 8 bytes 0) (word_at 8 bytes 8) (flushing g.lent (dev_of w)).dev → Why g c bytes w
+  erase_cut : c ≡ 0x1B → length bytes < 24 → Why g c bytes w
+  erase_flush : c ≡ 0x1B → Unflushed g.lent (dev_of w) → Why g c bytes w
+  erase_failed : c ≡ 0x1B → Unerased g.lent (word_at 8 bytes 0) (word_at 8 bytes 8) (flushing g.lent (dev_of w)).dev → Why g c bytes w
 
 -- the odd reply's reason (1e): "reply data 4,097 to 4,112 bytes, or a table text over 4,096"
 pub data Large (g : Given) (c : ℕ) (bytes : List ℕ) (w : World) : Type 0 where
-  read-large : c ≡ 0x03 → 8 ≤ length bytes → (Beyond w (word_at 4 bytes 0) (word_at 4 bytes 4) → ⊥) → 4096 < word_at 4 bytes 4 → word_at 4 bytes 4 ≤ 4112 → Large g c bytes w
-  table-large : c ≡ 0x17 → 4096 < length g.table → Large g c bytes w
+  read_large : c ≡ 0x03 → 8 ≤ length bytes → (Beyond w (word_at 4 bytes 0) (word_at 4 bytes 4) → ⊥) → 4096 < word_at 4 bytes 4 → word_at 4 bytes 4 ≤ 4112 → Large g c bytes w
+  table_large : c ≡ 0x17 → 4096 < length g.table → Large g c bytes w
 
 -- the commands that a frame may bring, by what they touch: scratch, scratch and storage, storage, and the reply alone with a word, with
 -- no data, or with more. (SEND_FWC_DATA, 0x12, is taken at its header, and no frame brings it: Turns.antt, `executes`.) All others are unsupported, 0x01 and 0x0D too

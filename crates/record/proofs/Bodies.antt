@@ -5,5 +5,5 @@ use Rattle.record.specs.Record.{Within}
 use Rattle.record.specs.declared.Next.{Next}
 use Rattle.record.specs.declared.Next.TheVariants.{Record}
 
-pub body-within : {r : Next} {kind len n : ℕ} → r ≡ Record kind len → Within r n → len ≤ n
-body-within {n} e w = subst (λ (x : Next). Within x n) e w
+pub body_within : {r : Next} {kind len n : ℕ} → r ≡ Record kind len → Within r n → len ≤ n
+body_within {n} e w = subst (λ (x : Next). Within x n) e w

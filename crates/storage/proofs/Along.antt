@@ -16,16 +16,16 @@ module _ (p : ℕ) (load seal : ℕ → Dev → Out) (P : Dev → Type 0) (top :
   either true o r h k = h
   either false o r h k = k
 
-  step-along : (x : ℕ) (b : Bool) (a : ℕ) (d : Dev) → a < top → P d → P (step p load seal (run b a d) x).dev
+  step_along : (x : ℕ) (b : Bool) (a : ℕ) (d : Dev) → a < top → P d → P (step p load seal (run b a d) x).dev
   unfolding step seals
-  step-along x true a d h k =
+  step_along x true a d h k =
       let l = loading a d h k in
       either (load a d).ok _ _ (sealing (a + 1) _ (setting (a % p) x (load a d).dev l)) l
-  step-along x false a d h k = k
+  step_along x false a d h k = k
 
-  pub writes-along : (xs : List ℕ) (o : Run) → o.at + length xs ≤ top → P o.dev → P (writes p load seal xs o).dev
+  pub writes_along : (xs : List ℕ) (o : Run) → o.at + length xs ≤ top → P o.dev → P (writes p load seal xs o).dev
   unfolding writes
-  writes-along [] o h k = k
-  writes-along (x ∷ xs) o h k =
+  writes_along [] o h k = k
+  writes_along (x ∷ xs) o h k =
       let m : (step p load seal o x).at ≤ o.at + 1 = no_more p load seal (x ∷ []) o in
-      writes-along xs (step p load seal o x) (omega arith) (step-along x o.ok o.at o.dev (omega arith) k)
+      writes_along xs (step p load seal o x) (omega arith) (step_along x o.ok o.at o.dev (omega arith) k)

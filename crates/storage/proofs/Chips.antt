@@ -11,7 +11,7 @@ use lib.Dec.{leb}
 use lib.ListN.{length, set, take, drop, replicate, length-take, length-drop}
 use lib.Seq.{drop-length}
 use Rattle.wire.specs.Bytes.{laid}
-use Rattle.wire.proofs.Copies.{laid-whole}
+use Rattle.wire.proofs.Copies.{laid_whole}
 use Rattle.storage.specs.declared.types.Store.{Store}
 use Rattle.storage.specs.Chip.{able, called, got, fetched}
 
@@ -30,29 +30,29 @@ filled n v d e = rw (e, drop-length d, append-nil)
 
 -- ---- calls
 
-cond-true : (b x : Bool) → cond b x false ≡ true → b ≡ true
-cond-true true x e = refl
-cond-true false x e = e
+cond_true : (b x : Bool) → cond b x false ≡ true → b ≡ true
+cond_true true x e = refl
+cond_true false x e = e
 
 -- a call that succeeds is in range
-pub able-fits : (F : List ℕ) (s : Store) (chip : List ℕ) (a n : ℕ) → able F s chip a n ≡ true → a + n ≤ length chip
+pub able_fits : (F : List ℕ) (s : Store) (chip : List ℕ) (a n : ℕ) → able F s chip a n ≡ true → a + n ≤ length chip
 unfolding able
-able-fits F s chip a n e = leb-true (a + n) (length chip) (cond-true (leb (a + n) (length chip)) _ e)
+able_fits F s chip a n e = leb-true (a + n) (length chip) (cond_true (leb (a + n) (length chip)) _ e)
 
 -- a part of n bytes within l has n bytes
 pub part_length : (a e n : ℕ) (l : List ℕ) → e ≡ a + n → a + n ≤ length l → length (take (e - a) (drop a l)) ≡ n
 part_length a e n l q h = simp (length-take, length-drop) (omega arith)
 
 module _ (F : List ℕ) (s : Store) (chip : List ℕ) (a : ℕ) (room : List ℕ) {st : Store} (q : st ≡ called s) where
-  pub fetch-fails : able F s chip a (length room) ≡ false → got false st room ≡ fetched F a s chip room
+  pub fetch_fails : able F s chip a (length room) ≡ false → got false st room ≡ fetched F a s chip room
   unfolding fetched
-  fetch-fails e = rw (q, e)
+  fetch_fails e = rw (q, e)
 
   -- a chip read that has laid the part `&chip[a..e]` over the room
-  pub fetch-part : (e : ℕ) {ys : List ℕ} → able F s chip a (length room) ≡ true → e ≡ a + length room → ys ≡ laid room 0 (take (e - a) (drop a chip))
+  pub fetch_part : (e : ℕ) {ys : List ℕ} → able F s chip a (length room) ≡ true → e ≡ a + length room → ys ≡ laid room 0 (take (e - a) (drop a chip))
       → got true st ys ≡ fetched F a s chip room
   unfolding fetched
-  fetch-part e t p r =
+  fetch_part e t p r =
       let k : e - a ≡ length room = omega arith in
-      let w = part_length a e (length room) chip p (able-fits F s chip a (length room) t) in
-      rw (q, t, r, laid-whole room (take (e - a) (drop a chip)) w, k)
+      let w = part_length a e (length room) chip p (able_fits F s chip a (length room) t) in
+      rw (q, t, r, laid_whole room (take (e - a) (drop a chip)) w, k)

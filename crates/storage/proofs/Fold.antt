@@ -13,22 +13,22 @@ use Rattle.wire.specs.Bytes.{laid}
 use Rattle.storage.specs.declared.types.Store.{Store}
 use Rattle.storage.specs.World.{Dev, dev, Out, out}
 use Rattle.storage.specs.Fold.{Run, run, base, seals, step, writes}
-use Rattle.storage.proofs.Pages.{mod-on, base_on}
+use Rattle.storage.proofs.Pages.{mod_on, base_on}
 
-pub false-true : {A : Type 0} → false ≡ true → A
-false-true e = absurd (let z : ◌≡◌ {A = ℕ} 0 1 = cc in omega arith)
+pub false_true : {A : Type 0} → false ≡ true → A
+false_true e = absurd (let z : ◌≡◌ {A = ℕ} 0 1 = cc in omega arith)
 
-picked-at : (b : Bool) (o : Run) (n a : ℕ) (d : Dev) → o.at ≡ n → (cond b o (run false a d)).ok ≡ true → (cond b o (run false a d)).at ≡ n
-picked-at true o n a d q e = q
-picked-at false o n a d q e = false-true e
+picked_at : (b : Bool) (o : Run) (n a : ℕ) (d : Dev) → o.at ≡ n → (cond b o (run false a d)).ok ≡ true → (cond b o (run false a d)).at ≡ n
+picked_at true o n a d q e = q
+picked_at false o n a d q e = false_true e
 
-picked-on : (b : Bool) (o : Run) (a : ℕ) (d : Dev) → a ≤ o.at → a ≤ (cond b o (run false a d)).at
-picked-on true o a d q = q
-picked-on false o a d q = le_refl a
+picked_on : (b : Bool) (o : Run) (a : ℕ) (d : Dev) → a ≤ o.at → a ≤ (cond b o (run false a d)).at
+picked_on true o a d q = q
+picked_on false o a d q = le_refl a
 
-picked-most : (b : Bool) (o : Run) (n a : ℕ) (d : Dev) → o.at ≤ n → a ≤ n → (cond b o (run false a d)).at ≤ n
-picked-most true o n a d q r = q
-picked-most false o n a d q r = r
+picked_most : (b : Bool) (o : Run) (n a : ℕ) (d : Dev) → o.at ≤ n → a ≤ n → (cond b o (run false a d)).at ≤ n
+picked_most true o n a d q r = q
+picked_most false o n a d q r = r
 
 module _ (p : ℕ) (load seal : ℕ → Dev → Out) where
   -- ---- what has failed stands
@@ -40,26 +40,26 @@ module _ (p : ℕ) (load seal : ℕ → Dev → Out) where
 
   -- ---- one after the other
 
-  pub writes-append : (xs ys : List ℕ) (o : Run) → writes p load seal (xs ++ ys) o ≡ writes p load seal ys (writes p load seal xs o)
+  pub writes_append : (xs ys : List ℕ) (o : Run) → writes p load seal (xs ++ ys) o ≡ writes p load seal ys (writes p load seal xs o)
   unfolding writes
-  writes-append [] ys o = refl
-  writes-append (x ∷ xs) ys o = writes-append xs ys (step p load seal o x)
+  writes_append [] ys o = refl
+  writes_append (x ∷ xs) ys o = writes_append xs ys (step p load seal o x)
 
   -- ---- a write that has not failed has come as far as its bytes
 
-  step-at : (a x : ℕ) (d : Dev) → (step p load seal (run true a d) x).ok ≡ true → (step p load seal (run true a d) x).at ≡ a + 1
+  step_at_lem : (a x : ℕ) (d : Dev) → (step p load seal (run true a d) x).ok ≡ true → (step p load seal (run true a d) x).at ≡ a + 1
   unfolding step seals
-  step-at a x d e = picked-at (load a d).ok _ (a + 1) a (load a d).dev refl e
+  step_at_lem a x d e = picked_at (load a d).ok _ (a + 1) a (load a d).dev refl e
 
-  step-on : (x : ℕ) (b : Bool) (a : ℕ) (d : Dev) → a ≤ (step p load seal (run b a d) x).at
+  step_on : (x : ℕ) (b : Bool) (a : ℕ) (d : Dev) → a ≤ (step p load seal (run b a d) x).at
   unfolding step seals
-  step-on x true a d = picked-on (load a d).ok _ a (load a d).dev (le-add_right a 1)
-  step-on x false a d = le_refl a
+  step_on x true a d = picked_on (load a d).ok _ a (load a d).dev (le-add_right a 1)
+  step_on x false a d = le_refl a
 
-  step-most : (x : ℕ) (b : Bool) (a : ℕ) (d : Dev) → (step p load seal (run b a d) x).at ≤ a + 1
+  step_most : (x : ℕ) (b : Bool) (a : ℕ) (d : Dev) → (step p load seal (run b a d) x).at ≤ a + 1
   unfolding step seals
-  step-most x true a d = picked-most (load a d).ok _ (a + 1) a (load a d).dev (le_refl (a + 1)) (le-add_right a 1)
-  step-most x false a d = le-add_right a 1
+  step_most x true a d = picked_most (load a d).ok _ (a + 1) a (load a d).dev (le_refl (a + 1)) (le-add_right a 1)
+  step_most x false a d = le-add_right a 1
 
   come : (xs : List ℕ) (b : Bool) (a : ℕ) (d : Dev) → (writes p load seal xs (run b a d)).ok ≡ true
       → (b ≡ true) × ((writes p load seal xs (run b a d)).at ≡ a + length xs)
@@ -68,8 +68,8 @@ module _ (p : ℕ) (load seal : ℕ → Dev → Out) where
   come (x ∷ xs) true a d e =
       let o = step p load seal (run true a d) x in
       let h = come xs o.ok o.at o.dev e in
-      (refl, h.1 ∙ (let k : o.at ≡ a + 1 = step-at a x d h.0 in omega arith))
-  come (x ∷ xs) false a d e = false-true (sym (ap (λ (o : Run). o.ok) (stopped (x ∷ xs) a d)) ∙ e)
+      (refl, h.1 ∙ (let k : o.at ≡ a + 1 = step_at_lem a x d h.0 in omega arith))
+  come (x ∷ xs) false a d e = false_true (sym (ap (λ (o : Run). o.ok) (stopped (x ∷ xs) a d)) ∙ e)
 
   pub reached : (xs : List ℕ) (a : ℕ) (d : Dev) → (writes p load seal xs (run true a d)).ok ≡ true → (writes p load seal xs (run true a d)).at ≡ a + length xs
   reached xs a d e = (come xs true a d e).1
@@ -78,14 +78,14 @@ module _ (p : ℕ) (load seal : ℕ → Dev → Out) where
   onwards : (xs : List ℕ) (o : Run) → o.at ≤ (writes p load seal xs o).at
   unfolding writes
   onwards [] o = omega arith
-  onwards (x ∷ xs) o = le_trans (step-on x o.ok o.at o.dev) (onwards xs (step p load seal o x))
+  onwards (x ∷ xs) o = le_trans (step_on x o.ok o.at o.dev) (onwards xs (step p load seal o x))
 
   -- nor past its bytes
   pub no_more : (xs : List ℕ) (o : Run) → (writes p load seal xs o).at ≤ o.at + length xs
   unfolding writes
   no_more [] o = omega arith
   no_more (x ∷ xs) o =
-      let h = step-most x o.ok o.at o.dev in
+      let h = step_most x o.ok o.at o.dev in
       let k = no_more xs (step p load seal o x) in
       omega arith
 
@@ -96,40 +96,40 @@ module _ (p : ℕ) (load seal : ℕ → Dev → Out) where
 
   module _ (s : Store) (b : ℕ) (stays : (a : ℕ) (chip buf : List ℕ) → base p a ≡ b → load a (dev s chip buf) ≡ out true (dev s chip buf))
       (opens : (a : ℕ) (d : Dev) → (a % p ≡ 0 → ⊥) → seal a d ≡ out true d) where
-    held-step : (a x : ℕ) (chip buf : List ℕ) → base p a ≡ b
+    held_step : (a x : ℕ) (chip buf : List ℕ) → base p a ≡ b
         → step p load seal (run true a (dev s chip buf)) x ≡ seals p load seal (a + 1) (dev s chip (set buf (a % p) x))
     unfolding step
-    held-step a x chip buf h = rw (stays a chip buf h)
+    held_step a x chip buf h = rw (stays a chip buf h)
 
-    seals-open : (a : ℕ) (d : Dev) → (a % p ≡ 0 → ⊥) → seals p load seal a d ≡ run true a d
+    seals_open : (a : ℕ) (d : Dev) → (a % p ≡ 0 → ⊥) → seals p load seal a d ≡ run true a d
     unfolding seals
-    seals-open a d n = rw (opens a d n)
+    seals_open a d n = rw (opens a d n)
 
     chunk : (x : ℕ) (xs : List ℕ) (a : ℕ) (chip buf : List ℕ) → base p a ≡ b → a % p + suc (length xs) ≤ p
         → writes p load seal (x ∷ xs) (run true a (dev s chip buf)) ≡ seals p load seal (a + suc (length xs)) (dev s chip (sets buf (a % p) (x ∷ xs)))
     unfolding writes
-    chunk x [] a chip buf h k = held-step a x chip buf h
+    chunk x [] a chip buf h k = held_step a x chip buf h
     chunk x (y ∷ ys) a chip buf h k =
         let i : a % p + 1 < p = omega arith in
-        let e2 : (a + 1) % p ≡ suc (a % p) = mod-on a 1 p i ∙ add-one (a % p) in
+        let e2 : (a + 1) % p ≡ suc (a % p) = mod_on a 1 p i ∙ add-one (a % p) in
         let e3 : a + 1 + suc (length ys) ≡ a + suc (suc (length ys)) = omega arith in
         let n0 : (a + 1) % p ≡ 0 → ⊥ = omega arith in
         let c = set buf (a % p) x in
-        ap (λ (o : Run). writes p load seal (y ∷ ys) o) (held-step a x chip buf h ∙ seals-open (a + 1) (dev s chip c) n0)
+        ap (λ (o : Run). writes p load seal (y ∷ ys) o) (held_step a x chip buf h ∙ seals_open (a + 1) (dev s chip c) n0)
         ∙ (rw (e2, e3) at (chunk y ys (a + 1) chip c (base_on a 1 p i ∙ h) (omega arith)))
 
   -- ---- the same from the state before the page is loaded, as the code goes
 
   module _ (a : ℕ) (d : Dev) {l : Out} (q : l ≡ load a d) where
-    pub piece-unloaded : (xs : List ℕ) → 0 < length xs → l.ok ≡ false → run false a l.dev ≡ writes p load seal xs (run true a d)
+    pub piece_unloaded : (xs : List ℕ) → 0 < length xs → l.ok ≡ false → run false a l.dev ≡ writes p load seal xs (run true a d)
     unfolding writes step
-    piece-unloaded [] k t = absurd (not-suc-le-zero k)
-    piece-unloaded (x ∷ xs) k t = rw (← q, t) (sym (stopped xs a l.dev))
+    piece_unloaded [] k t = absurd (not-suc-le-zero k)
+    piece_unloaded (x ∷ xs) k t = rw (← q, t) (sym (stopped xs a l.dev))
 
-    pub loaded-step : (x : ℕ) → l.ok ≡ true
+    pub loaded_step : (x : ℕ) → l.ok ≡ true
         → step p load seal (run true a d) x ≡ seals p load seal (a + 1) (dev l.dev.store l.dev.chip (set l.dev.buf (a % p) x))
     unfolding step
-    loaded-step x t = rw (← q, t)
+    loaded_step x t = rw (← q, t)
 
     pub piece : (xs : List ℕ) → 0 < length xs → l.ok ≡ true → a % p + length xs ≤ p
         → ((e : ℕ) (chip buf : List ℕ) → base p e ≡ base p a → load e (dev l.dev.store chip buf) ≡ out true (dev l.dev.store chip buf))
@@ -138,14 +138,14 @@ module _ (p : ℕ) (load seal : ℕ → Dev → Out) where
     unfolding writes
     piece [] k t n stays opens = absurd (not-suc-le-zero k)
     piece (x ∷ xs) k t n stays opens =
-        sym (ap (λ (o : Run). writes p load seal xs o) (loaded-step x t ∙ sym (held-step l.dev.store (base p a) stays opens a x l.dev.chip l.dev.buf refl))
+        sym (ap (λ (o : Run). writes p load seal xs o) (loaded_step x t ∙ sym (held_step l.dev.store (base p a) stays opens a x l.dev.chip l.dev.buf refl))
         ∙ chunk l.dev.store (base p a) stays opens x xs a l.dev.chip l.dev.buf refl n)
 
   -- ---- the loop over pieces: the piece from k up to e is done, and what is left is from e on
 
-  stopped-if : (xs : List ℕ) (b : Bool) (a : ℕ) (d : Dev) → b ≡ false → writes p load seal xs (run b a d) ≡ run b a d
-  stopped-if xs true a d e = false-true (sym e)
-  stopped-if xs false a d e = stopped xs a d
+  stopped_if : (xs : List ℕ) (b : Bool) (a : ℕ) (d : Dev) → b ≡ false → writes p load seal xs (run b a d) ≡ run b a d
+  stopped_if xs true a d e = false_true (sym e)
+  stopped_if xs false a d e = stopped xs a d
 
   module _ (bs : List ℕ) (k e off : ℕ) (d : Dev) {r : Run} (h : k ≤ e) (q : r ≡ writes p load seal (take (e - k) (drop k bs)) (run true (off + k) d)) where
     onward : writes p load seal (drop e bs) r ≡ writes p load seal (drop k bs) (run true (off + k) d)
@@ -153,14 +153,14 @@ module _ (p : ℕ) (load seal : ℕ → Dev → Out) where
         let m : e ≡ k + (e - k) = omega arith in
         let n : drop e bs ≡ drop (e - k) (drop k bs) = ap (λ (j : ℕ). drop j bs) m ∙ sym (drop-drop (e - k) k bs) in
         ap (λ (o : Run). writes p load seal (drop e bs) o) q
-        ∙ sym (writes-append (take (e - k) (drop k bs)) (drop e bs) (run true (off + k) d))
+        ∙ sym (writes_append (take (e - k) (drop k bs)) (drop e bs) (run true (off + k) d))
         ∙ ap (λ (l : List ℕ). writes p load seal l (run true (off + k) d)) (ap (λ (l : List ℕ). take (e - k) (drop k bs) ++ l) n ∙ take-append-drop (e - k) (drop k bs))
 
-    pub piece-failed : r.ok ≡ false → r ≡ writes p load seal (drop k bs) (run true (off + k) d)
-    piece-failed t = sym (stopped-if (drop e bs) r.ok r.at r.dev t) ∙ onward
+    pub piece_failed : r.ok ≡ false → r ≡ writes p load seal (drop k bs) (run true (off + k) d)
+    piece_failed t = sym (stopped_if (drop e bs) r.ok r.at r.dev t) ∙ onward
 
-    pub piece-went : e ≤ length bs → r.ok ≡ true → writes p load seal (drop e bs) (run true (off + e) r.dev) ≡ writes p load seal (drop k bs) (run true (off + k) d)
-    piece-went l t =
+    pub piece_went : e ≤ length bs → r.ok ≡ true → writes p load seal (drop e bs) (run true (off + e) r.dev) ≡ writes p load seal (drop k bs) (run true (off + k) d)
+    piece_went l t =
         let n : length (take (e - k) (drop k bs)) ≡ e - k = simp (length-take, length-drop) (omega arith) in
         let z = reached (take (e - k) (drop k bs)) (off + k) d (ap (λ (o : Run). o.ok) (sym q) ∙ t) in
         let w : r.at ≡ off + e = ap (λ (o : Run). o.at) q ∙ z ∙ (omega arith) in
@@ -171,6 +171,6 @@ module _ (p : ℕ) (load seal : ℕ → Dev → Out) where
   finished bs k o h = rw (drop_of_length-le bs h)
 
 -- bytes laid over the buffer are set one after the other
-pub laid-sets : (i : ℕ) (l xs : List ℕ) → i + length xs ≤ length l → laid l i xs ≡ sets l i xs
+pub laid_sets : (i : ℕ) (l xs : List ℕ) → i + length xs ≤ length l → laid l i xs ≡ sets l i xs
 unfolding laid
-laid-sets i l xs h = rw (le-leb (i + length xs) (length l) h)
+laid_sets i l xs h = rw (le-leb (i + length xs) (length l) h)

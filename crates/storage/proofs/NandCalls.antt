@@ -27,70 +27,70 @@ kept_to (suc n) [] new = []
 kept_to (suc n) (x ∷ old) [] = x ∷ old
 kept_to (suc n) (x ∷ old) (y ∷ new) = bit_and x y ∷ kept_to n old new
 
-kept-suc : (n : ℕ) (old new : List ℕ) → n < length old → n < length new
+kept_suc : (n : ℕ) (old new : List ℕ) → n < length old → n < length new
     → set (kept_to n old new) n (bit_and (get_or (kept_to n old new) n 0) (get_or new n 0)) ≡ kept_to (suc n) old new
 unfolding kept_to
-kept-suc zero [] new h k = absurd (not-suc-le-zero h)
-kept-suc zero (x ∷ old) [] h k = absurd (not-suc-le-zero k)
-kept-suc zero (x ∷ old) (y ∷ new) h k = refl
-kept-suc (suc n) [] new h k = absurd (not-suc-le-zero h)
-kept-suc (suc n) (x ∷ old) [] h k = absurd (not-suc-le-zero k)
-kept-suc (suc n) (x ∷ old) (y ∷ new) h k = ap (λ (r : List ℕ). bit_and x y ∷ r) (kept-suc n old new (le_of_suc-le-suc h) (le_of_suc-le-suc k))
+kept_suc zero [] new h k = absurd (not-suc-le-zero h)
+kept_suc zero (x ∷ old) [] h k = absurd (not-suc-le-zero k)
+kept_suc zero (x ∷ old) (y ∷ new) h k = refl
+kept_suc (suc n) [] new h k = absurd (not-suc-le-zero h)
+kept_suc (suc n) (x ∷ old) [] h k = absurd (not-suc-le-zero k)
+kept_suc (suc n) (x ∷ old) (y ∷ new) h k = ap (λ (r : List ℕ). bit_and x y ∷ r) (kept_suc n old new (le_of_suc-le-suc h) (le_of_suc-le-suc k))
 
 pub kept_more : (n : ℕ) (old new : List ℕ) → n < length old → n < length new
     → set (kept_to n old new) n (bit_and (get_or (kept_to n old new) n 0) (get_or new n 0)) ≡ kept_to (n + 1) old new
-kept_more n old new h k = rw add-one (kept-suc n old new h k)
+kept_more n old new h k = rw add-one (kept_suc n old new h k)
 
-kept-all : (old new : List ℕ) → kept_to (length old) old new ≡ kept old new
+kept_all : (old new : List ℕ) → kept_to (length old) old new ≡ kept old new
 unfolding kept_to kept
-kept-all [] new = refl
-kept-all (x ∷ old) [] = refl
-kept-all (x ∷ old) (y ∷ new) = ap (λ (r : List ℕ). bit_and x y ∷ r) (kept-all old new)
+kept_all [] new = refl
+kept_all (x ∷ old) [] = refl
+kept_all (x ∷ old) (y ∷ new) = ap (λ (r : List ℕ). bit_and x y ∷ r) (kept_all old new)
 
 pub kept_whole : (n : ℕ) (old new : List ℕ) → n ≡ length old → kept_to n old new ≡ kept old new
-kept_whole n old new e = rw e (kept-all old new)
+kept_whole n old new e = rw e (kept_all old new)
 
 -- a program leaves as many bytes as there were
-pub length-kept : (old new : List ℕ) → length (kept old new) ≡ length old
+pub length_kept : (old new : List ℕ) → length (kept old new) ≡ length old
 unfolding kept
-length-kept [] new = refl
-length-kept (x ∷ old) [] = refl
-length-kept (x ∷ old) (y ∷ new) = ap suc (length-kept old new)
+length_kept [] new = refl
+length_kept (x ∷ old) [] = refl
+length_kept (x ∷ old) (y ∷ new) = ap suc (length_kept old new)
 
 -- as many bytes as are programmed, where they lie within the chip
-pub length-page : (a : ℕ) (xs l : List ℕ) → a + length xs ≤ length l → length (kept (take (length xs) (drop a l)) xs) ≡ length xs
-length-page a xs l h = length-kept (take (length xs) (drop a l)) xs ∙ simp (length-take, length-drop) (omega arith)
+pub length_page : (a : ℕ) (xs l : List ℕ) → a + length xs ≤ length l → length (kept (take (length xs) (drop a l)) xs) ≡ length xs
+length_page a xs l h = length_kept (take (length xs) (drop a l)) xs ∙ simp (length-take, length-drop) (omega arith)
 
 -- ---- the calls, case by case, as the code goes
 
 module _ (l : Lent) (k : ℕ) (s : Store) (c b : List ℕ) {st : Store} (q : st ≡ called s) where
-  pub asked-fails : failing l.faults s.calls ≡ true → out false (dev st c b) ≡ asks_good l k (dev s c b)
+  pub asked_fails : failing l.faults s.calls ≡ true → out false (dev st c b) ≡ asks_good l k (dev s c b)
   unfolding asks_good
-  asked-fails e = rw (q, e)
+  asked_fails e = rw (q, e)
 
   pub asked : failing l.faults s.calls ≡ false → out (eqb (get_or l.marks k 0) 255) (dev st c b) ≡ asks_good l k (dev s c b)
   unfolding asks_good
   asked e = rw (q, e)
 
 module _ (F : List ℕ) (s : Store) (chip : List ℕ) (a : ℕ) (xs b : List ℕ) {st : Store} (q : st ≡ called s) where
-  pub page-fails : able F s chip a (length xs) ≡ false → out false (dev st chip b) ≡ program_page F a xs (dev s chip b)
+  pub page_fails : able F s chip a (length xs) ≡ false → out false (dev st chip b) ≡ program_page F a xs (dev s chip b)
   unfolding program_page
-  page-fails e = rw (q, e)
+  page_fails e = rw (q, e)
 
   -- a call that programmed the part `&mut chip[a..e]`
-  pub page-part : (e : ℕ) {ys : List ℕ} {r : Bool} → able F s chip a (length xs) ≡ true → a + length xs ≤ length chip → e ≡ a + length xs
+  pub page_part : (e : ℕ) {ys : List ℕ} {r : Bool} → able F s chip a (length xs) ≡ true → a + length xs ≤ length chip → e ≡ a + length xs
       → ys ≡ kept (take (e - a) (drop a chip)) xs → r ≡ same (kept (take (e - a) (drop a chip)) xs) xs
       → out r (dev st (put_mid a (e - a) chip ys) b) ≡ program_page F a xs (dev s chip b)
   unfolding program_page over
-  page-part e t f p u v =
+  page_part e t f p u v =
       let k : e - a ≡ length xs = omega arith in
-      rw (q, t, u, v, k, length-page a xs chip f)
+      rw (q, t, u, v, k, length_page a xs chip f)
 
 -- ---- a block of 0xFF
 
-pub length-blanks : (n : ℕ) → length (blanks n) ≡ n
+pub length_blanks : (n : ℕ) → length (blanks n) ≡ n
 unfolding blanks
-length-blanks n = length-replicate {A = ℕ} n 255
+length_blanks n = length-replicate {A = ℕ} n 255
 
 -- a part of n bytes within l, filled
 pub blank_part : (a e n : ℕ) (l : List ℕ) → e ≡ a + n → a + n ≤ length l → replicate (length (take (e - a) (drop a l))) 255 ≡ blanks n

@@ -17,25 +17,25 @@ use Rattle.storage.specs.Chip.{able, called, over}
 use Rattle.storage.specs.Fold.{Run, run, base, writes}
 use Rattle.storage.specs.Nor.{freed, holds}
 use Rattle.storage.specs.Nand.{Shaped, Sound, block_size, blanks, kept, erase_block, program_page, asks_good, remember, is_erased, erase_checked, ready, burns, attempt, or_else, flushes, begins, loads, stays}
-use Rattle.storage.proofs.Chips.{able-fits}
+use Rattle.storage.proofs.Chips.{able_fits}
 use Rattle.storage.proofs.Over.{length_over}
-use Rattle.storage.proofs.Programs.{Call, programs-call}
-use Rattle.storage.proofs.Along.{writes-along}
-use Rattle.storage.proofs.NandCalls.{length-page}
+use Rattle.storage.proofs.Programs.{Call, programs_call}
+use Rattle.storage.proofs.Along.{writes_along}
+use Rattle.storage.proofs.NandCalls.{length_page}
 
 -- ---- the chip's calls
 
-asks-call : (l : Lent) (k : ℕ) (d : Dev) → Call d (asks_good l k d).dev
+asks_call : (l : Lent) (k : ℕ) (d : Dev) → Call d (asks_good l k d).dev
 unfolding asks_good
-asks-call l k d = record { number = refl; buf = refl; size = refl }
+asks_call l k d = record { number = refl; buf = refl; size = refl }
 
 erase_call : (F : List ℕ) (k : ℕ) (d : Dev) → Call d (erase_block F k d).dev
 unfolding erase_block
-erase_call F k d = programs-call F (k * block_size d.store) (blanks (block_size d.store)) d
+erase_call F k d = programs_call F (k * block_size d.store) (blanks (block_size d.store)) d
 
-page-call : (F : List ℕ) (a : ℕ) (xs : List ℕ) (d : Dev) → Call d (program_page F a xs d).dev
+page_call : (F : List ℕ) (a : ℕ) (xs : List ℕ) (d : Dev) → Call d (program_page F a xs d).dev
 unfolding program_page
-page-call F a xs d = go (able F d.store d.chip a (length xs)) refl
+page_call F a xs d = go (able F d.store d.chip a (length xs)) refl
   where
     new : List ℕ
     new = kept (take (length xs) (drop a d.chip)) xs
@@ -43,8 +43,8 @@ page-call F a xs d = go (able F d.store d.chip a (length xs)) refl
     go : (b : Bool) → able F d.store d.chip a (length xs) ≡ b
         → Call d (cond b (out (same new xs) (dev (called d.store) (over a new d.chip) d.buf)) (out false (dev (called d.store) d.chip d.buf))).dev
     go true t =
-        let f : a + length xs ≤ length d.chip = able-fits F d.store d.chip a (length xs) t in
-        record { number = refl; buf = refl; size = length_over a new d.chip (rw (length-page a xs d.chip f) f) }
+        let f : a + length xs ≤ length d.chip = able_fits F d.store d.chip a (length xs) t in
+        record { number = refl; buf = refl; size = length_over a new d.chip (rw (length_page a xs d.chip f) f) }
     go false t = record { number = refl; buf = refl; size = refl }
 
 -- ---- the steps
@@ -58,91 +58,91 @@ module _ (P : Dev → Type 0) where
   next o f h k = either o.ok (f o.dev) o (k o.dev h) h
 
   module _ (calls : (d e : Dev) → Call d e → P d → P e) (notes : (e : Erased) (d : Dev) → P d → P (remember e d)) (l : Lent) where
-    pub checked-keeps : (k : ℕ) (d : Dev) → P d → P (erase_checked l k d).dev
+    pub checked_keeps : (k : ℕ) (d : Dev) → P d → P (erase_checked l k d).dev
     unfolding erase_checked
-    checked-keeps k d h =
+    checked_keeps k d h =
         either (ltb k d.store.shape.blocks) (and_then (asks_good l k d) (erase_block l.faults k)) (out false d)
-        (next (asks_good l k d) (erase_block l.faults k) (calls d (asks_good l k d).dev (asks-call l k d) h)
+        (next (asks_good l k d) (erase_block l.faults k) (calls d (asks_good l k d).dev (asks_call l k d) h)
         (λ e i. calls e (erase_block l.faults k e).dev (erase_call l.faults k e) i)) h
 
-    ready-keeps : (k : ℕ) (d : Dev) → P d → P (ready l k d).dev
+    ready_keeps : (k : ℕ) (d : Dev) → P d → P (ready l k d).dev
     unfolding ready
-    ready-keeps k d h =
+    ready_keeps k d h =
         let e = erase_checked l k d in
-        let i = checked-keeps k d h in
+        let i = checked_keeps k d h in
         either (is_erased d.store.erased k) (out true d) (cond e.ok (out true (remember (Block k) e.dev)) (out false (remember None e.dev))) h
         (either e.ok (out true (remember (Block k) e.dev)) (out false (remember None e.dev)) (notes (Block k) e.dev i) (notes None e.dev i))
 
-    burns-keeps : (d : Dev) → P d → P (burns l d).dev
+    burns_keeps : (d : Dev) → P d → P (burns l d).dev
     unfolding burns
-    burns-keeps d h =
+    burns_keeps d h =
         let xs = take d.store.shape.page d.buf in
         let w = program_page l.faults d.store.at xs d in
-        let i = calls d w.dev (page-call l.faults d.store.at xs d) h in
+        let i = calls d w.dev (page_call l.faults d.store.at xs d) h in
         either w.ok w (out false (remember None w.dev)) i (notes None w.dev i)
 
-    attempt-keeps : (d : Dev) → P d → P (attempt l d).dev
+    attempt_keeps : (d : Dev) → P d → P (attempt l d).dev
     unfolding attempt
-    attempt-keeps d h = let k = d.store.at / block_size d.store in next (ready l k d) (burns l) (ready-keeps k d h) burns-keeps
+    attempt_keeps d h = let k = d.store.at / block_size d.store in next (ready l k d) (burns l) (ready_keeps k d h) burns_keeps
 
     module _ (frees : (d : Dev) → P d → P (dev (freed d.store) d.chip d.buf)) where
-      pub flushes-keeps : (d : Dev) → P d → P (flushes l d).dev
+      pub flushes_keeps : (d : Dev) → P d → P (flushes l d).dev
       unfolding flushes
-      flushes-keeps d h =
+      flushes_keeps d h =
           let a = attempt l d in
-          let i = attempt-keeps d h in
+          let i = attempt_keeps d h in
           let f : Dev → Out = λ w. out true (dev (freed w.store) w.chip w.buf) in
           either d.store.held (and_then (or_else a (attempt l)) f) (out true d)
-          (next (or_else a (attempt l)) f (either a.ok a (attempt l a.dev) i (attempt-keeps a.dev i)) frees) h
+          (next (or_else a (attempt l)) f (either a.ok a (attempt l a.dev) i (attempt_keeps a.dev i)) frees) h
 
       -- below the address `top`
       module _ (p top : ℕ) (starts : (a : ℕ) (d : Dev) → a < top → P d → P (begins (base p a) d)) where
-        loads-keeps : (a : ℕ) (d : Dev) → a < top → P d → P (loads l p a d).dev
+        loads_keeps : (a : ℕ) (d : Dev) → a < top → P d → P (loads l p a d).dev
         unfolding loads
-        loads-keeps a d t h =
+        loads_keeps a d t h =
             let f : Dev → Out = λ e. out true (begins (base p a) e) in
-            either (holds d.store (base p a)) (out true d) (and_then (flushes l d) f) h (next (flushes l d) f (flushes-keeps d h) (λ e i. starts a e t i))
+            either (holds d.store (base p a)) (out true d) (and_then (flushes l d) f) h (next (flushes l d) f (flushes_keeps d h) (λ e i. starts a e t i))
 
-        stays-keeps : (a : ℕ) (d : Dev) → P d → P (stays a d).dev
+        stays_keeps : (a : ℕ) (d : Dev) → P d → P (stays a d).dev
         unfolding stays
-        stays-keeps a d h = h
+        stays_keeps a d h = h
 
-        pub writes-keeps : ((i x : ℕ) (d : Dev) → P d → P (dev d.store d.chip (set d.buf i x))) → (xs : List ℕ) (o : Run) → o.at + length xs ≤ top → P o.dev
+        pub writes_keeps : ((i x : ℕ) (d : Dev) → P d → P (dev d.store d.chip (set d.buf i x))) → (xs : List ℕ) (o : Run) → o.at + length xs ≤ top → P o.dev
             → P (writes p (loads l p) stays xs o).dev
-        writes-keeps sets xs o t h = writes-along p (loads l p) stays P top loads-keeps stays-keeps sets xs o t h
+        writes_keeps sets xs o t h = writes_along p (loads l p) stays P top loads_keeps stays_keeps sets xs o t h
 
 -- ---- the shape
 
-pub shaped-as : {m : List ℕ} {g h : Shape} → g ≡ h → Shaped m h → Shaped m g
-shaped-as q s = rw q s
+pub shaped_as : {m : List ℕ} {g h : Shape} → g ≡ h → Shaped m h → Shaped m g
+shaped_as q s = rw q s
 
-pub sound-as : {m b : List ℕ} {g h : Shape} → g ≡ h → Sound m h b → Sound m g b
-sound-as q s = rw q s
+pub sound_as : {m b : List ℕ} {g h : Shape} → g ≡ h → Sound m h b → Sound m g b
+sound_as q s = rw q s
 
 -- another buffer of the same length will do
-pub sound-with : {m b c : List ℕ} {h : Shape} → length c ≡ length b → Sound m h b → Sound m h c
-sound-with q s = record { shaped = s.shaped; room = rw q s.room }
+pub sound_with : {m b c : List ℕ} {h : Shape} → length c ≡ length b → Sound m h b → Sound m h c
+sound_with q s = record { shaped = s.shaped; room = rw q s.room }
 
 module _ (l : Lent) (d : Dev) where
   abbrev As : Dev → Type 0
   As e = e.store.shape ≡ d.store.shape
 
-  call-as : (e f : Dev) → Call e f → As e → As f
-  call-as e f c h = ap (λ (s : Store). s.shape) c.number ∙ h
+  call_as : (e f : Dev) → Call e f → As e → As f
+  call_as e f c h = ap (λ (s : Store). s.shape) c.number ∙ h
 
-  pub ready-shape : (k : ℕ) {o : Out} → o ≡ ready l k d → o.dev.store.shape ≡ d.store.shape
-  ready-shape k q = rw q (ready-keeps As call-as (λ e f h. h) l k d refl)
+  pub ready_shape : (k : ℕ) {o : Out} → o ≡ ready l k d → o.dev.store.shape ≡ d.store.shape
+  ready_shape k q = rw q (ready_keeps As call_as (λ e f h. h) l k d refl)
 
-  pub checked-shape : (k : ℕ) {o : Out} → o ≡ erase_checked l k d → o.dev.store.shape ≡ d.store.shape
-  checked-shape k q = rw q (checked-keeps As call-as (λ e f h. h) l k d refl)
+  pub checked_shape : (k : ℕ) {o : Out} → o ≡ erase_checked l k d → o.dev.store.shape ≡ d.store.shape
+  checked_shape k q = rw q (checked_keeps As call_as (λ e f h. h) l k d refl)
 
-  pub attempt-shape : {o : Out} → o ≡ attempt l d → o.dev.store.shape ≡ d.store.shape
-  attempt-shape q = rw q (attempt-keeps As call-as (λ e f h. h) l d refl)
+  pub attempt_shape : {o : Out} → o ≡ attempt l d → o.dev.store.shape ≡ d.store.shape
+  attempt_shape q = rw q (attempt_keeps As call_as (λ e f h. h) l d refl)
 
-  pub flushes-shape : {o : Out} → o ≡ flushes l d → o.dev.store.shape ≡ d.store.shape
-  flushes-shape q = rw q (flushes-keeps As call-as (λ e f h. h) l (λ f h. h) d refl)
+  pub flushes_shape : {o : Out} → o ≡ flushes l d → o.dev.store.shape ≡ d.store.shape
+  flushes_shape q = rw q (flushes_keeps As call_as (λ e f h. h) l (λ f h. h) d refl)
 
-  pub writes-shape : (p : ℕ) (xs : List ℕ) (a : ℕ) {o : Run} → o ≡ writes p (loads l p) stays xs (run true a d) → o.dev.store.shape ≡ d.store.shape
+  pub writes_shape : (p : ℕ) (xs : List ℕ) (a : ℕ) {o : Run} → o ≡ writes p (loads l p) stays xs (run true a d) → o.dev.store.shape ≡ d.store.shape
   unfolding begins
-  writes-shape p xs a q =
-      rw q (writes-keeps As call-as (λ e f h. h) l (λ f h. h) p (a + length xs) (λ i f t h. h) (λ i x f h. h) xs (run true a d) (le_refl (a + length xs)) refl)
+  writes_shape p xs a q =
+      rw q (writes_keeps As call_as (λ e f h. h) l (λ f h. h) p (a + length xs) (λ i f t h. h) (λ i x f h. h) xs (run true a d) (le_refl (a + length xs)) refl)

@@ -17,79 +17,79 @@ use Rattle.storage.specs.Nand.{Shaped, Sound, block_size, erase_block, program_p
 -- ---- the block's place fits
 
 -- a block is at most 2^20 bytes
-pub block-most : {m : List ℕ} {h : Shape} → Shaped m h → h.page * h.pages ≤ 1048576
-block-most s = mul-le-mul s.page-most s.pages-most
+pub block_most : {m : List ℕ} {h : Shape} → Shaped m h → h.page * h.pages ≤ 1048576
+block_most s = mul-le-mul s.page_most s.pages_most
 
-pub block-fits : {m : List ℕ} {h : Shape} → Shaped m h → (k : ℕ) → k < h.blocks → k * (h.page * h.pages) + h.page * h.pages ≤ 2 ^ 32
-block-fits {h = h} s k i =
-    let a : k ≤ 4095 = omega (arith, s.blocks-most) in
-    let b = block-most s in
+pub block_fits : {m : List ℕ} {h : Shape} → Shaped m h → (k : ℕ) → k < h.blocks → k * (h.page * h.pages) + h.page * h.pages ≤ 2 ^ 32
+block_fits {h = h} s k i =
+    let a : k ≤ 4095 = omega (arith, s.blocks_most) in
+    let b = block_most s in
     let c : k * (h.page * h.pages) ≤ 4095 * 1048576 = mul-le-mul a b in
     omega arith
 
 -- and at least one
-pub block-some : {m : List ℕ} {h : Shape} → Shaped m h → 0 < h.page * h.pages
-block-some s = mul-le-mul s.page-some s.pages-some
+pub block_some : {m : List ℕ} {h : Shape} → Shaped m h → 0 < h.page * h.pages
+block_some s = mul-le-mul s.page_some s.pages_some
 
 -- a page fits the buffer
-pub page-fits : {m b : List ℕ} {h : Shape} → Sound m h b → h.page ≤ length b
-page-fits s = le_trans s.shaped.page-most s.room
+pub page_fits : {m b : List ℕ} {h : Shape} → Sound m h b → h.page ≤ length b
+page_fits s = le_trans s.shaped.page_most s.room
 
 -- ---- a checked erase
 
 module _ (l : Lent) (k : ℕ) (d : Dev) where
-  pub checked-beyond : d.store.shape.blocks ≤ k → out false d ≡ erase_checked l k d
+  pub checked_beyond : d.store.shape.blocks ≤ k → out false d ≡ erase_checked l k d
   unfolding erase_checked
-  checked-beyond h = rw (le-ltb k d.store.shape.blocks h)
+  checked_beyond h = rw (le-ltb k d.store.shape.blocks h)
 
-  pub asks-shape : {a : Out} → a ≡ asks_good l k d → a.dev.store.shape ≡ d.store.shape
+  pub asks_shape : {a : Out} → a ≡ asks_good l k d → a.dev.store.shape ≡ d.store.shape
   unfolding asks_good
-  asks-shape p = ap (λ (o : Out). o.dev.store.shape) p
+  asks_shape p = ap (λ (o : Out). o.dev.store.shape) p
 
   module _ {a : Out} (h : k < d.store.shape.blocks) (p : a ≡ asks_good l k d) where
-    pub checked-bad : a.ok ≡ false → a ≡ erase_checked l k d
+    pub checked_bad : a.ok ≡ false → a ≡ erase_checked l k d
     unfolding erase_checked
-    checked-bad t = rw (← p, lt-ltb k d.store.shape.blocks h, t)
+    checked_bad t = rw (← p, lt-ltb k d.store.shape.blocks h, t)
 
-    pub checked-done : {e : Out} → a.ok ≡ true → e ≡ erase_block l.faults k a.dev → e ≡ erase_checked l k d
+    pub checked_done : {e : Out} → a.ok ≡ true → e ≡ erase_block l.faults k a.dev → e ≡ erase_checked l k d
     unfolding erase_checked
-    checked-done t q = rw (← p, lt-ltb k d.store.shape.blocks h, t, ← q)
+    checked_done t q = rw (← p, lt-ltb k d.store.shape.blocks h, t, ← q)
 
   -- ---- a block made ready
 
-  pub ready-known : is_erased d.store.erased k ≡ true → out true d ≡ ready l k d
+  pub ready_known : is_erased d.store.erased k ≡ true → out true d ≡ ready l k d
   unfolding ready
-  ready-known h = rw h
+  ready_known h = rw h
 
   module _ {e : Out} (h : is_erased d.store.erased k ≡ false) (p : e ≡ erase_checked l k d) where
-    pub ready-not : {s : Store} → e.ok ≡ false → s ≡ noting None e.dev.store → out false (dev s e.dev.chip e.dev.buf) ≡ ready l k d
+    pub ready_not : {s : Store} → e.ok ≡ false → s ≡ noting None e.dev.store → out false (dev s e.dev.chip e.dev.buf) ≡ ready l k d
     unfolding ready
-    ready-not t q = rw (← p, h, t, q)
+    ready_not t q = rw (← p, h, t, q)
 
-    pub ready-now : {s : Store} → e.ok ≡ true → s ≡ noting (Block k) e.dev.store → out true (dev s e.dev.chip e.dev.buf) ≡ ready l k d
+    pub ready_now : {s : Store} → e.ok ≡ true → s ≡ noting (Block k) e.dev.store → out true (dev s e.dev.chip e.dev.buf) ≡ ready l k d
     unfolding ready
-    ready-now t q = rw (← p, h, t, q)
+    ready_now t q = rw (← p, h, t, q)
 
 -- ---- a page burnt, a try, a second one
 
 module _ (l : Lent) (d : Dev) where
   module _ {w : Out} (p : w ≡ program_page l.faults d.store.at (take d.store.shape.page d.buf) d) where
-    pub burns-done : w.ok ≡ true → w ≡ burns l d
+    pub burns_done : w.ok ≡ true → w ≡ burns l d
     unfolding burns
-    burns-done t = rw (← p, t)
+    burns_done t = rw (← p, t)
 
-    pub burns-not : {s : Store} → w.ok ≡ false → s ≡ noting None w.dev.store → out false (dev s w.dev.chip w.dev.buf) ≡ burns l d
+    pub burns_not : {s : Store} → w.ok ≡ false → s ≡ noting None w.dev.store → out false (dev s w.dev.chip w.dev.buf) ≡ burns l d
     unfolding burns
-    burns-not t q = rw (← p, t, q)
+    burns_not t q = rw (← p, t, q)
 
   module _ (k : ℕ) {r : Out} (q : k ≡ d.store.at / block_size d.store) (p : r ≡ ready l k d) where
-    pub attempt-unready : r.ok ≡ false → r ≡ attempt l d
+    pub attempt_unready : r.ok ≡ false → r ≡ attempt l d
     unfolding attempt
-    attempt-unready t = rw (← q, ← p, t)
+    attempt_unready t = rw (← q, ← p, t)
 
-    pub attempt-burns : {w : Out} → r.ok ≡ true → w ≡ burns l r.dev → w ≡ attempt l d
+    pub attempt_burns : {w : Out} → r.ok ≡ true → w ≡ burns l r.dev → w ≡ attempt l d
     unfolding attempt
-    attempt-burns t u = rw (← q, ← p, t, ← u)
+    attempt_burns t u = rw (← q, ← p, t, ← u)
 
   module _ {a : Out} (p : a ≡ attempt l d) where
     pub once : a.ok ≡ true → a ≡ or_else (attempt l d) (attempt l)
@@ -100,24 +100,24 @@ module _ (l : Lent) (d : Dev) where
 
   -- ---- a flush
 
-  pub flush-free : d.store.held ≡ false → out true d ≡ flushes l d
+  pub flush_free : d.store.held ≡ false → out true d ≡ flushes l d
   unfolding flushes
-  flush-free h = rw h
+  flush_free h = rw h
 
   module _ {w : Out} (h : d.store.held ≡ true) (p : w ≡ or_else (attempt l d) (attempt l)) where
-    pub flush-not : w.ok ≡ false → w ≡ flushes l d
+    pub flush_not : w.ok ≡ false → w ≡ flushes l d
     unfolding flushes
-    flush-not t = rw (← p, h, t)
+    flush_not t = rw (← p, h, t)
 
-    pub flush-done : w.ok ≡ true → out true (dev (freed w.dev.store) w.dev.chip w.dev.buf) ≡ flushes l d
+    pub flush_done : w.ok ≡ true → out true (dev (freed w.dev.store) w.dev.chip w.dev.buf) ≡ flushes l d
     unfolding flushes
-    flush-done t = rw (← p, h, t)
+    flush_done t = rw (← p, h, t)
 
   module _ {f : Out} (p : f ≡ flushes l d) where
-    pub flushed-not : f.ok ≡ false → f ≡ flushed l d
+    pub flushed_not : f.ok ≡ false → f ≡ flushed l d
     unfolding flushed
-    flushed-not t = rw (← p, t)
+    flushed_not t = rw (← p, t)
 
-    pub flushed-done : {s : Store} → f.ok ≡ true → s ≡ noting None f.dev.store → out true (dev s f.dev.chip f.dev.buf) ≡ flushed l d
+    pub flushed_done : {s : Store} → f.ok ≡ true → s ≡ noting None f.dev.store → out true (dev s f.dev.chip f.dev.buf) ≡ flushed l d
     unfolding flushed
-    flushed-done t q = rw (← p, t, q)
+    flushed_done t q = rw (← p, t, q)

@@ -15,59 +15,59 @@ use Rattle.storage.specs.World.{Dev, dev, Out, out, and_then, Told, told, Seen, 
 use Rattle.storage.specs.Chip.{Got, fetched}
 use Rattle.storage.specs.Fold.{Run, run, base, seals, writes}
 use Rattle.storage.specs.Nor.{erase_sector, write_bytes, freed, holding, holds, flushes, reads, loads, closes, written, erase_n, pages_of, sat_add, erased, read_out}
-use Rattle.storage.proofs.Fold.{false-true, no_more, piece, laid-sets}
+use Rattle.storage.proofs.Fold.{false_true, no_more, piece, laid_sets}
 
 -- ---- a flush
 
 module _ (F : List ℕ) (d : Dev) where
-  pub flush-free : d.store.held ≡ false → out true d ≡ flushes F d
+  pub flush_free : d.store.held ≡ false → out true d ≡ flushes F d
   unfolding flushes
-  flush-free h = rw h
+  flush_free h = rw h
 
   module _ {e : Out} (h : d.store.held ≡ true) (p : e ≡ erase_sector F d.store.at d) where
-    pub flush-unerased : e.ok ≡ false → e ≡ flushes F d
+    pub flush_unerased : e.ok ≡ false → e ≡ flushes F d
     unfolding flushes
-    flush-unerased t = rw (← p, h, t)
+    flush_unerased t = rw (← p, h, t)
 
     module _ {w : Out} (t : e.ok ≡ true) (q : w ≡ write_bytes F d.store.at (take 4096 d.buf) e.dev) where
-      pub flush-unwritten : w.ok ≡ false → w ≡ flushes F d
+      pub flush_unwritten : w.ok ≡ false → w ≡ flushes F d
       unfolding flushes
-      flush-unwritten u = rw (← p, ← q, h, t, u)
+      flush_unwritten u = rw (← p, ← q, h, t, u)
 
-      pub flush-done : w.ok ≡ true → out true (dev (freed w.dev.store) w.dev.chip w.dev.buf) ≡ flushes F d
+      pub flush_done : w.ok ≡ true → out true (dev (freed w.dev.store) w.dev.chip w.dev.buf) ≡ flushes F d
       unfolding flushes
-      flush-done u = rw (← p, ← q, h, t, u)
+      flush_done u = rw (← p, ← q, h, t, u)
 
 -- ---- a load
 
 module _ (F : List ℕ) (a : ℕ) (d : Dev) where
-  pub load-held : holds d.store (base 4096 a) ≡ true → out true d ≡ loads F a d
+  pub load_held : holds d.store (base 4096 a) ≡ true → out true d ≡ loads F a d
   unfolding loads
-  load-held h = rw h
+  load_held h = rw h
 
   module _ {f : Out} (h : holds d.store (base 4096 a) ≡ false) (p : f ≡ flushes F d) where
-    pub load-unflushed : f.ok ≡ false → f ≡ loads F a d
+    pub load_unflushed : f.ok ≡ false → f ≡ loads F a d
     unfolding loads
-    load-unflushed t = rw (← p, h, t)
+    load_unflushed t = rw (← p, h, t)
 
     module _ {g : Got} (t : f.ok ≡ true) (q : g ≡ fetched F (base 4096 a) f.dev.store f.dev.chip (take 4096 f.dev.buf)) where
-      pub load-unread : g.ok ≡ false → out g.ok (dev g.store f.dev.chip (g.room ++ drop 4096 f.dev.buf)) ≡ loads F a d
+      pub load_unread : g.ok ≡ false → out g.ok (dev g.store f.dev.chip (g.room ++ drop 4096 f.dev.buf)) ≡ loads F a d
       unfolding loads reads
-      load-unread u = rw (← p, ← q, h, t, u)
+      load_unread u = rw (← p, ← q, h, t, u)
 
-      pub load-done : g.ok ≡ true → out true (dev (holding (base 4096 a) g.store) f.dev.chip (g.room ++ drop 4096 f.dev.buf)) ≡ loads F a d
+      pub load_done : g.ok ≡ true → out true (dev (holding (base 4096 a) g.store) f.dev.chip (g.room ++ drop 4096 f.dev.buf)) ≡ loads F a d
       unfolding loads reads
-      load-done u = rw (← p, ← q, h, t, u)
+      load_done u = rw (← p, ← q, h, t, u)
 
 -- ---- what is loaded is held
 
 after : (b : Bool) (d : Dev) (f : Dev → Out) (P : Dev → Type 0) → ((e : Dev) → (f e).ok ≡ true → P (f e).dev) → (and_then (out b d) f).ok ≡ true → P (and_then (out b d) f).dev
 after true d f P k e = k d e
-after false d f P k e = false-true e
+after false d f P k e = false_true e
 
-holding-holds : (a : ℕ) (s : Store) → holds (holding a s) a ≡ true
+holding_holds : (a : ℕ) (s : Store) → holds (holding a s) a ≡ true
 unfolding holds
-holding-holds a s = eq-eqb a a refl
+holding_holds a s = eq-eqb a a refl
 
 loaded : (F : List ℕ) (a : ℕ) (d : Dev) → (loads F a d).ok ≡ true → holds (loads F a d).dev.store (base 4096 a) ≡ true
 unfolding loads
@@ -86,53 +86,53 @@ loaded F a d = go (holds d.store (base 4096 a)) refl
         → holds (cond b (out true d) (and_then (flushes F d) S)).dev.store (base 4096 a) ≡ true
     go true h e = h
     go false h e =
-        after (flushes F d).ok (flushes F d).dev S H (λ f t. after (reads F (base 4096 a) f).ok (reads F (base 4096 a) f).dev R H (λ r u. holding-holds (base 4096 a) r.store) t) e
+        after (flushes F d).ok (flushes F d).dev S H (λ f t. after (reads F (base 4096 a) f).ok (reads F (base 4096 a) f).dev R H (λ r u. holding_holds (base 4096 a) r.store) t) e
 
 -- ---- a piece within one sector
 
 stays : (F : List ℕ) (s : Store) (b : ℕ) → holds s b ≡ true → (e : ℕ) (chip buf : List ℕ) → base 4096 e ≡ b → loads F e (dev s chip buf) ≡ out true (dev s chip buf)
-stays F s b h e chip buf q = sym (load-held F e (dev s chip buf) (rw q h))
+stays F s b h e chip buf q = sym (load_held F e (dev s chip buf) (rw q h))
 
 opens : (F : List ℕ) (a : ℕ) (d : Dev) → (a % 4096 ≡ 0 → ⊥) → closes F a d ≡ out true d
 unfolding closes
 opens F a d n = rw (ne_eqb (a % 4096) 0 n)
 
-seals-open : (F : List ℕ) (a : ℕ) (d : Dev) → (a % 4096 ≡ 0 → ⊥) → run true a d ≡ seals 4096 (loads F) (closes F) a d
+seals_open : (F : List ℕ) (a : ℕ) (d : Dev) → (a % 4096 ≡ 0 → ⊥) → run true a d ≡ seals 4096 (loads F) (closes F) a d
 unfolding seals
-seals-open F a d n = rw (opens F a d n)
+seals_open F a d n = rw (opens F a d n)
 
-seals-full : (F : List ℕ) (a : ℕ) (d : Dev) {f : Out} → a % 4096 ≡ 0 → f ≡ flushes F d → run f.ok a f.dev ≡ seals 4096 (loads F) (closes F) a d
+seals_full : (F : List ℕ) (a : ℕ) (d : Dev) {f : Out} → a % 4096 ≡ 0 → f ≡ flushes F d → run f.ok a f.dev ≡ seals 4096 (loads F) (closes F) a d
 unfolding seals closes
-seals-full F a d h p = rw (← p, eq-eqb (a % 4096) 0 h)
+seals_full F a d h p = rw (← p, eq-eqb (a % 4096) 0 h)
 
 module _ (F : List ℕ) (a : ℕ) (d : Dev) (xs : List ℕ) {l : Out} {b : List ℕ} (k : 0 < length xs) (p : l ≡ loads F a d) (t : l.ok ≡ true)
     (q : b ≡ laid l.dev.buf (a % 4096) xs) (m : a % 4096 + length xs ≤ length l.dev.buf) where
   sealed : a % 4096 + length xs ≤ 4096 → seals 4096 (loads F) (closes F) (a + length xs) (dev l.dev.store l.dev.chip b) ≡ writes 4096 (loads F) (closes F) xs (run true a d)
   sealed n =
       let h : holds l.dev.store (base 4096 a) ≡ true = rw (← p) at (loaded F a d (ap (λ (o : Out). o.ok) (sym p) ∙ t)) in
-      let w : b ≡ sets l.dev.buf (a % 4096) xs = q ∙ laid-sets (a % 4096) l.dev.buf xs m in
+      let w : b ≡ sets l.dev.buf (a % 4096) xs = q ∙ laid_sets (a % 4096) l.dev.buf xs m in
       rw w (piece 4096 (loads F) (closes F) a d p xs k t n (stays F l.dev.store (base 4096 a) h) (opens F))
 
-  pub piece-open : a % 4096 + length xs < 4096 → run true (a + length xs) (dev l.dev.store l.dev.chip b) ≡ writes 4096 (loads F) (closes F) xs (run true a d)
-  piece-open n =
+  pub piece_open : a % 4096 + length xs < 4096 → run true (a + length xs) (dev l.dev.store l.dev.chip b) ≡ writes 4096 (loads F) (closes F) xs (run true a d)
+  piece_open n =
       let n0 : (a + length xs) % 4096 ≡ 0 → ⊥ = omega arith in
-      seals-open F (a + length xs) (dev l.dev.store l.dev.chip b) n0 ∙ sealed (omega arith)
+      seals_open F (a + length xs) (dev l.dev.store l.dev.chip b) n0 ∙ sealed (omega arith)
 
-  pub piece-full : {f : Out} → a % 4096 + length xs ≡ 4096 → f ≡ flushes F (dev l.dev.store l.dev.chip b)
+  pub piece_full : {f : Out} → a % 4096 + length xs ≡ 4096 → f ≡ flushes F (dev l.dev.store l.dev.chip b)
       → run f.ok (a + length xs) f.dev ≡ writes 4096 (loads F) (closes F) xs (run true a d)
-  piece-full n r = seals-full F (a + length xs) (dev l.dev.store l.dev.chip b) (omega arith) r ∙ sealed (omega arith)
+  piece_full n r = seals_full F (a + length xs) (dev l.dev.store l.dev.chip b) (omega arith) r ∙ sealed (omega arith)
 
 -- ---- a write
 
 module _ (F : List ℕ) (off : ℕ) (xs : List ℕ) (d : Dev) where
-  pub written-past : d.store.shape.capacity < off + length xs → told 0 0 d ≡ written F off xs d
+  pub written_past : d.store.shape.capacity < off + length xs → told 0 0 d ≡ written F off xs d
   unfolding written
-  written-past k = rw (lt-leb (off + length xs) d.store.shape.capacity k)
+  written_past k = rw (lt-leb (off + length xs) d.store.shape.capacity k)
 
-  pub written-told : {o : Run} → off + length xs ≤ d.store.shape.capacity → o ≡ writes 4096 (loads F) (closes F) xs (run true off d)
+  pub written_told : {o : Run} → off + length xs ≤ d.store.shape.capacity → o ≡ writes 4096 (loads F) (closes F) xs (run true off d)
       → told 0 (o.at - off) o.dev ≡ written F off xs d
   unfolding written
-  written-told k p = rw (← p, le-leb (off + length xs) d.store.shape.capacity k)
+  written_told k p = rw (← p, le-leb (off + length xs) d.store.shape.capacity k)
 
 counted : (b : Bool) (x n : ℕ) (d e : Dev) → x ≤ n → (cond b (told 0 x e) (told 0 0 d)).count ≤ n
 counted true x n d e h = h
@@ -148,9 +148,9 @@ written_count F off xs d q =
 -- ---- a read
 
 module _ (F : List ℕ) (off : ℕ) (room : List ℕ) (d : Dev) {f : Out} (p : f ≡ flushes F d) where
-  pub read-unflushed : f.ok ≡ false → seen (told 0 0 f.dev) room ≡ read_out F off room d
+  pub read_unflushed : f.ok ≡ false → seen (told 0 0 f.dev) room ≡ read_out F off room d
   unfolding read_out
-  read-unflushed t = rw (← p, t)
+  read_unflushed t = rw (← p, t)
 
   module _ (t : f.ok ≡ true) (n : ℕ) (q : n ≡ min (length room) (f.dev.store.shape.capacity - off)) where
     pub read_none : n ≡ 0 → seen (told 0 0 f.dev) room ≡ read_out F off room d
@@ -181,34 +181,34 @@ read_count F off room d q =
 
 -- ---- an erase
 
-pub erase-none : (F : List ℕ) (k i a : ℕ) (d : Dev) → k ≤ i → out true d ≡ erase_n F (k - i) a d
+pub erase_none : (F : List ℕ) (k i a : ℕ) (d : Dev) → k ≤ i → out true d ≡ erase_n F (k - i) a d
 unfolding erase_n
-erase-none F k i a d h = let e : k - i ≡ 0 = omega arith in rw e
+erase_none F k i a d h = let e : k - i ≡ 0 = omega arith in rw e
 
 -- a turn of the loop: the i-th of k sectors
-erase-one : (F : List ℕ) (k i a : ℕ) (d : Dev) {e : Out} → i < k → e ≡ erase_sector F a d → erase_n F (k - i) a d ≡ and_then e (erase_n F (k - (i + 1)) (a + 4096))
+erase_one : (F : List ℕ) (k i a : ℕ) (d : Dev) {e : Out} → i < k → e ≡ erase_sector F a d → erase_n F (k - i) a d ≡ and_then e (erase_n F (k - (i + 1)) (a + 4096))
 unfolding erase_n
-erase-one F k i a d h p = let q : k - i ≡ suc (k - (i + 1)) = omega arith in rw (q, ← p)
+erase_one F k i a d h p = let q : k - i ≡ suc (k - (i + 1)) = omega arith in rw (q, ← p)
 
-pub erase-failed : (F : List ℕ) (k i a : ℕ) (d : Dev) {e : Out} → i < k → e ≡ erase_sector F a d → e.ok ≡ false → e ≡ erase_n F (k - i) a d
-erase-failed F k i a d h p t = rw (erase-one F k i a d h p, t)
+pub erase_failed : (F : List ℕ) (k i a : ℕ) (d : Dev) {e : Out} → i < k → e ≡ erase_sector F a d → e.ok ≡ false → e ≡ erase_n F (k - i) a d
+erase_failed F k i a d h p t = rw (erase_one F k i a d h p, t)
 
-pub erase-went : (F : List ℕ) (k i first : ℕ) (d : Dev) {e : Out} → i < k → e ≡ erase_sector F (first + i * 4096) d → e.ok ≡ true
+pub erase_went : (F : List ℕ) (k i first : ℕ) (d : Dev) {e : Out} → i < k → e ≡ erase_sector F (first + i * 4096) d → e.ok ≡ true
     → erase_n F (k - (i + 1)) (first + (i + 1) * 4096) e.dev ≡ erase_n F (k - i) (first + i * 4096) d
-erase-went F k i first d h p t =
+erase_went F k i first d h p t =
     let q : first + (i + 1) * 4096 ≡ first + i * 4096 + 4096 = omega arith in
-    rw (erase-one F k i (first + i * 4096) d h p, q, t)
+    rw (erase_one F k i (first + i * 4096) d h p, q, t)
 
 module _ (F : List ℕ) (start size : ℕ) (d : Dev) {f : Out} (p : f ≡ flushes F d) where
-  pub erased-unflushed : f.ok ≡ false → f ≡ erased F start size d
+  pub erased_unflushed : f.ok ≡ false → f ≡ erased F start size d
   unfolding erased
-  erased-unflushed t = rw (← p, t)
+  erased_unflushed t = rw (← p, t)
 
   module _ (t : f.ok ≡ true) (end : ℕ) (q : end ≡ sat_add start size) where
-    pub erased-past : f.dev.store.shape.capacity < end → out false f.dev ≡ erased F start size d
+    pub erased_past : f.dev.store.shape.capacity < end → out false f.dev ≡ erased F start size d
     unfolding erased
-    erased-past k = rw (← p, ← q, t, lt-leb end f.dev.store.shape.capacity k)
+    erased_past k = rw (← p, ← q, t, lt-leb end f.dev.store.shape.capacity k)
 
-    pub erased-told : {o : Out} → end ≤ f.dev.store.shape.capacity → o ≡ erase_n F (pages_of 4096 (end - base 4096 start)) (base 4096 start) f.dev → o ≡ erased F start size d
+    pub erased_told : {o : Out} → end ≤ f.dev.store.shape.capacity → o ≡ erase_n F (pages_of 4096 (end - base 4096 start)) (base 4096 start) f.dev → o ≡ erased F start size d
     unfolding erased
-    erased-told k r = rw (← p, ← q, t, le-leb end f.dev.store.shape.capacity k, ← r)
+    erased_told k r = rw (← p, ← q, t, le-leb end f.dev.store.shape.capacity k, ← r)

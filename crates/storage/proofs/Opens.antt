@@ -1,6 +1,6 @@
 -- Laws of openings and of the tests that later calls make. Exported for callers: `Geometry`, `geometry` (what NAND's numbers have),
--- `Sound`, `sound` (what a record and the lengths lent with it have where `fits` answers true), `opened-nor`, `opened-nand` (what an
--- opening gives), `opened-nor-sound`, `opened-nand-sound` (it is in bounds, and its own parts fit), `bounds-kept`, `parts-kept` (so they
+-- `Sound`, `sound` (what a record and the lengths lent with it have where `fits` answers true), `opened_nor_lem`, `opened_nand_lem` (what an
+-- opening gives), `opened_nor_sound`, `opened_nand_sound` (it is in bounds, and its own parts fit), `bounds_kept`, `parts_kept` (so they
 -- stay after a call that keeps the shape).
 use mathlib.Core.Path.{◌≡◌, refl, sym, ap, ◌∙◌}
 use mathlib.Core.Bool.{Bool, true, false, ◌&&◌}
@@ -16,16 +16,16 @@ use Rattle.storage.specs.declared.open.Opened.{Opened}
 use Rattle.storage.specs.declared.open.Opened.TheVariants.{Ready}
 use Rattle.storage.specs.Partition.{Lists, lists_ok, end_of}
 use Rattle.storage.specs.Open.{page_ok, pages_ok, geometry_ok, nor_size, chip_ok, numbers_ok, scratch_ok, nor_store, nand_store, unless, opened_nor, opened_nand, by_kind, unit_of, held_ok, in_bounds, parts_fit}
-use Rattle.storage.proofs.Partitions.{end-most}
-use Rattle.storage.proofs.Powers.{page-bounds, pages-bounds}
+use Rattle.storage.proofs.Partitions.{end_most}
+use Rattle.storage.proofs.Powers.{page_bounds, pages_bounds}
 
 both : (x y : Bool) → x && y ≡ true → (x ≡ true) × (y ≡ true)
 both true y e = (refl, e)
 both false y e = absurd (let z : ◌≡◌ {A = ℕ} 0 1 = cc in omega arith)
 
 -- a sum that is tested without being made
-pub sum-tested : (b n m : ℕ) → n ≤ m → leb b (m - n) ≡ leb (b + n) m
-sum-tested b n m h = go (leb b (m - n)) refl
+pub sum_tested : (b n m : ℕ) → n ≤ m → leb b (m - n) ≡ leb (b + n) m
+sum_tested b n m h = go (leb b (m - n)) refl
   where
     go : (t : Bool) → leb b (m - n) ≡ t → t ≡ leb (b + n) m
     go true e = sym (le-leb (b + n) m (omega (arith, leb-true b (m - n) e)))
@@ -34,16 +34,16 @@ sum-tested b n m h = go (leb b (m - n)) refl
 -- ---- NAND's numbers
 
 pub record Geometry (page pages blocks : ℕ) : Type 0 where
-  pub page-ok : page_ok page ≡ true
-  pub page-low : 512 ≤ page
-  pub page-high : page ≤ 4096
-  pub pages-low : 1 ≤ pages
-  pub pages-high : pages ≤ 256
-  pub blocks-low : 1 ≤ blocks
-  pub blocks-high : blocks ≤ 4096
-  pub block-some : 0 < page * pages
-  pub block-most : page * pages ≤ 1048576
-  pub chip-most : page * pages * blocks ≤ 4294967296
+  pub page_ok_lem : page_ok page ≡ true
+  pub page_low : 512 ≤ page
+  pub page_high : page ≤ 4096
+  pub pages_low : 1 ≤ pages
+  pub pages_high : pages ≤ 256
+  pub blocks_low : 1 ≤ blocks
+  pub blocks_high : blocks ≤ 4096
+  pub block_some : 0 < page * pages
+  pub block_most : page * pages ≤ 1048576
+  pub chip_most : page * pages * blocks ≤ 4294967296
 
 pub geometry : (page pages blocks : ℕ) → geometry_ok page pages blocks ≡ true → Geometry page pages blocks
 unfolding geometry_ok
@@ -51,69 +51,69 @@ geometry page pages blocks e =
     let p = both (page_ok page) _ e in
     let q = both (pages_ok pages) _ p.1 in
     let r = both (leb 1 blocks) _ q.1 in
-    let f = page-bounds page p.0 in
-    let g = pages-bounds pages q.0 in
+    let f = page_bounds page p.0 in
+    let g = pages_bounds pages q.0 in
     let h = leb-true blocks 4096 r.1 in
     let m : page * pages ≤ 4096 * 256 = mul-le-mul f.1 g.1 in
     let n : page * pages * blocks ≤ 4096 * 256 * 4096 = mul-le-mul m h in
     record {
-      page-ok = p.0;
-      page-low = f.0;
-      page-high = f.1;
-      pages-low = g.0;
-      pages-high = g.1;
-      blocks-low = leb-true 1 blocks r.0;
-      blocks-high = h;
-      block-some = mul-pos (omega arith) (omega arith);
-      block-most = m;
-      chip-most = n;
+      page_ok_lem = p.0;
+      page_low = f.0;
+      page_high = f.1;
+      pages_low = g.0;
+      pages_high = g.1;
+      blocks_low = leb-true 1 blocks r.0;
+      blocks_high = h;
+      block_some = mul-pos (omega arith) (omega arith);
+      block_most = m;
+      chip_most = n;
     }
 
 -- ---- records in bounds
 
-pub bounds-nand : (s : Store) → in_bounds s ≡ true → s.shape.kind ≡ Nand → geometry_ok s.shape.page s.shape.pages s.shape.blocks ≡ true
+pub bounds_nand : (s : Store) → in_bounds s ≡ true → s.shape.kind ≡ Nand → geometry_ok s.shape.page s.shape.pages s.shape.blocks ≡ true
 unfolding in_bounds
-bounds-nand s e k =
+bounds_nand s e k =
     let p = both (leb s.shape.capacity 2147483648) _ e in
     let q = both (by_kind s.shape.kind true (geometry_ok s.shape.page s.shape.pages s.shape.blocks)) _ p.1 in
     ap (λ (x : Kind). by_kind x true (geometry_ok s.shape.page s.shape.pages s.shape.blocks)) (sym k) ∙ q.0
 
 -- what is lent to a NOR, and to a NAND
 pub record Sectors (chip : ℕ) : Type 0 where
-  pub chip-low : 4096 ≤ chip
-  pub chip-high : chip ≤ 16777216
-  pub chip-whole : chip % 4096 ≡ 0
+  pub chip_low : 4096 ≤ chip
+  pub chip_high : chip ≤ 16777216
+  pub chip_whole : chip % 4096 ≡ 0
 
 pub record Pages (s : Store) (chip marks : ℕ) : Type 0 where
   pub numbers : Geometry s.shape.page s.shape.pages s.shape.blocks
-  pub chip-is : chip ≡ s.shape.page * s.shape.pages * s.shape.blocks
-  pub marks-are : marks ≡ s.shape.blocks
+  pub chip_is : chip ≡ s.shape.page * s.shape.pages * s.shape.blocks
+  pub marks_are : marks ≡ s.shape.blocks
 
 pub record Sound (s : Store) (chip marks buffer : ℕ) : Type 0 where
   pub room : 4096 ≤ buffer
-  pub capacity-most : s.shape.capacity ≤ 2147483648
+  pub capacity_most : s.shape.capacity ≤ 2147483648
   pub held_start : s.held ≡ true → s.at % unit_of s ≡ 0
   pub held_below : s.held ≡ true → s.at < s.shape.capacity
   pub nor : s.shape.kind ≡ Nor → Sectors chip
   pub nand : s.shape.kind ≡ Nand → Pages s chip marks
 
-held-facts : (held : Bool) (at unit capacity : ℕ) → held_ok held at unit capacity ≡ true → held ≡ true → (at % unit ≡ 0) × (at < capacity)
+held_facts : (held : Bool) (at unit capacity : ℕ) → held_ok held at unit capacity ≡ true → held ≡ true → (at % unit ≡ 0) × (at < capacity)
 unfolding held_ok
-held-facts true at unit capacity e h =
+held_facts true at unit capacity e h =
     let p = both (eqb (at % unit) 0) _ e in
     (eqb-true (at % unit) 0 p.0, ltb-true at capacity p.1)
-held-facts false at unit capacity e h = absurd (let z : ◌≡◌ {A = ℕ} 0 1 = cc in omega arith)
+held_facts false at unit capacity e h = absurd (let z : ◌≡◌ {A = ℕ} 0 1 = cc in omega arith)
 
 sectors : (chip : ℕ) → nor_size chip ≡ true → Sectors chip
 unfolding nor_size
 sectors chip e =
     let p = both (leb 4096 chip) _ e in
     let q = both (leb chip 16777216) _ p.1 in
-    record { chip-low = leb-true 4096 chip p.0; chip-high = leb-true chip 16777216 q.0; chip-whole = eqb-true (chip % 4096) 0 q.1 }
+    record { chip_low = leb-true 4096 chip p.0; chip_high = leb-true chip 16777216 q.0; chip_whole = eqb-true (chip % 4096) 0 q.1 }
 
-chip-facts : (page pages blocks chip marks : ℕ) → chip_ok page pages blocks chip marks ≡ true → (chip ≡ page * pages * blocks) × (marks ≡ blocks)
+chip_facts : (page pages blocks chip marks : ℕ) → chip_ok page pages blocks chip marks ≡ true → (chip ≡ page * pages * blocks) × (marks ≡ blocks)
 unfolding chip_ok
-chip-facts page pages blocks chip marks e =
+chip_facts page pages blocks chip marks e =
     let p = both (eqb chip (page * pages * blocks)) _ e in
     (eqb-true chip (page * pages * blocks) p.0, eqb-true marks blocks p.1)
 
@@ -127,42 +127,42 @@ module _ (s : Store) (chip marks buffer : ℕ) where
       let f = both (leb 4096 buffer) _ p.1 in
       record {
         room = leb-true 4096 buffer f.0;
-        capacity-most = leb-true s.shape.capacity 2147483648 b.0;
-        held_start = λ h. (held-facts s.held s.at (unit_of s) s.shape.capacity c.1 h).0;
-        held_below = λ h. (held-facts s.held s.at (unit_of s) s.shape.capacity c.1 h).1;
+        capacity_most = leb-true s.shape.capacity 2147483648 b.0;
+        held_start = λ h. (held_facts s.held s.at (unit_of s) s.shape.capacity c.1 h).0;
+        held_below = λ h. (held_facts s.held s.at (unit_of s) s.shape.capacity c.1 h).1;
         nor = λ k. sectors chip (ap (λ (x : Kind). by_kind x (nor_size chip) (chip_ok s.shape.page s.shape.pages s.shape.blocks chip marks)) (sym k) ∙ f.1);
         nand = λ k.
-            let z = chip-facts s.shape.page s.shape.pages s.shape.blocks chip marks (ap (λ (x : Kind). by_kind x (nor_size chip) (chip_ok s.shape.page s.shape.pages s.shape.blocks chip marks)) (sym k) ∙ f.1) in
-            record { numbers = geometry s.shape.page s.shape.pages s.shape.blocks (bounds-nand s p.0 k); chip-is = z.0; marks-are = z.1 };
+            let z = chip_facts s.shape.page s.shape.pages s.shape.blocks chip marks (ap (λ (x : Kind). by_kind x (nor_size chip) (chip_ok s.shape.page s.shape.pages s.shape.blocks chip marks)) (sym k) ∙ f.1) in
+            record { numbers = geometry s.shape.page s.shape.pages s.shape.blocks (bounds_nand s p.0 k); chip_is = z.0; marks_are = z.1 };
       }
 
 -- ---- a call that keeps the shape keeps the record in bounds, and the parts that fit it
 
-held-made : (held : Bool) (at unit capacity : ℕ) → (held ≡ true → (at % unit ≡ 0) × (at < capacity)) → held_ok held at unit capacity ≡ true
+held_made : (held : Bool) (at unit capacity : ℕ) → (held ≡ true → (at % unit ≡ 0) × (at < capacity)) → held_ok held at unit capacity ≡ true
 unfolding held_ok
-held-made true at unit capacity f = let p = f refl in rw (eq-eqb (at % unit) 0 p.0, lt-ltb at capacity p.1)
-held-made false at unit capacity f = refl
+held_made true at unit capacity f = let p = f refl in rw (eq-eqb (at % unit) 0 p.0, lt-ltb at capacity p.1)
+held_made false at unit capacity f = refl
 
 module _ (s t : Store) (k : t.shape ≡ s.shape) where
-  pub bounds-kept : (t.held ≡ true → (t.at % unit_of s ≡ 0) × (t.at < s.shape.capacity)) → in_bounds s ≡ true → in_bounds t ≡ true
+  pub bounds_kept : (t.held ≡ true → (t.at % unit_of s ≡ 0) × (t.at < s.shape.capacity)) → in_bounds s ≡ true → in_bounds t ≡ true
   unfolding in_bounds
-  bounds-kept f e =
+  bounds_kept f e =
       let b = both (leb s.shape.capacity 2147483648) _ e in
       let c = both (by_kind s.shape.kind true (geometry_ok s.shape.page s.shape.pages s.shape.blocks)) _ b.1 in
-      rw (k, b.0, c.0) (held-made t.held t.at (unit_of s) s.shape.capacity f)
+      rw (k, b.0, c.0) (held_made t.held t.at (unit_of s) s.shape.capacity f)
 
-  pub parts-kept : (chip marks buffer : ℕ) → parts_fit t chip marks buffer ≡ parts_fit s chip marks buffer
+  pub parts_kept : (chip marks buffer : ℕ) → parts_fit t chip marks buffer ≡ parts_fit s chip marks buffer
   unfolding parts_fit
-  parts-kept chip marks buffer = rw k
+  parts_kept chip marks buffer = rw k
 
 -- ---- what an opening gives
 
-unless-ready : (t : Bool) (n : ℕ) (o : Opened) (s : Store) → unless t n o ≡ Ready s → (t ≡ true) × (o ≡ Ready s)
-unless-ready true n o s e = (refl, e)
-unless-ready false n o s e = absurd (let z : ◌≡◌ {A = ℕ} 0 1 = cc in omega arith)
+unless_ready : (t : Bool) (n : ℕ) (o : Opened) (s : Store) → unless t n o ≡ Ready s → (t ≡ true) × (o ≡ Ready s)
+unless_ready true n o s e = (refl, e)
+unless_ready false n o s e = absurd (let z : ◌≡◌ {A = ℕ} 0 1 = cc in omega arith)
 
-ready-is : (a b : Store) → Ready a ≡ Ready b → b ≡ a
-ready-is a b e = cc
+ready_is : (a b : Store) → Ready a ≡ Ready b → b ≡ a
+ready_is a b e = cc
 
 module _ (chip buffer : ℕ) (l : Lists) (base scratch stage device : ℕ) (s : Store) where
   -- a NOR that is opened: no refusal held, and the store is as it is opened
@@ -170,78 +170,78 @@ module _ (chip buffer : ℕ) (l : Lists) (base scratch stage device : ℕ) (s : 
     pub room : 4096 ≤ buffer
     pub size : nor_size chip ≡ true
     pub table : lists_ok l ≡ true
-    pub scratch-fits : base + scratch ≤ 4294967296
+    pub scratch_fits : base + scratch ≤ 4294967296
     pub store : s ≡ nor_store chip (end_of l) stage device
 
-  pub opened-nor : opened_nor chip buffer l base scratch stage device ≡ Ready s → OpenNor
+  pub opened_nor_lem : opened_nor chip buffer l base scratch stage device ≡ Ready s → OpenNor
   unfolding opened_nor scratch_ok
-  opened-nor e =
-      let a = unless-ready (leb 4096 buffer) 10 _ s e in
-      let b = unless-ready (nor_size chip) 11 _ s a.1 in
-      let c = unless-ready (lists_ok l) 12 _ s b.1 in
-      let d = unless-ready (scratch_ok base scratch) 14 _ s c.1 in
+  opened_nor_lem e =
+      let a = unless_ready (leb 4096 buffer) 10 _ s e in
+      let b = unless_ready (nor_size chip) 11 _ s a.1 in
+      let c = unless_ready (lists_ok l) 12 _ s b.1 in
+      let d = unless_ready (scratch_ok base scratch) 14 _ s c.1 in
       record {
         room = leb-true 4096 buffer a.0;
         size = b.0;
         table = c.0;
-        scratch-fits = leb-true (base + scratch) 4294967296 d.0;
-        store = ready-is (nor_store chip (end_of l) stage device) s d.1;
+        scratch_fits = leb-true (base + scratch) 4294967296 d.0;
+        store = ready_is (nor_store chip (end_of l) stage device) s d.1;
       }
 
-  nor-bounds : OpenNor → in_bounds s ≡ true
+  nor_bounds : OpenNor → in_bounds s ≡ true
   unfolding in_bounds held_ok
-  nor-bounds o =
+  nor_bounds o =
       let z = sectors chip o.size in
-      let m : max chip (end_of l) ≤ 2147483648 = omega (arith, end-most l) in
+      let m : max chip (end_of l) ≤ 2147483648 = omega (arith, end_most l) in
       rw (o.store, le-leb (max chip (end_of l)) 2147483648 m)
 
-  nor-fits : (marks : ℕ) → OpenNor → parts_fit s chip marks buffer ≡ true
+  nor_fits_lem : (marks : ℕ) → OpenNor → parts_fit s chip marks buffer ≡ true
   unfolding parts_fit
-  nor-fits marks o = rw (o.store, le-leb 4096 buffer o.room) o.size
+  nor_fits_lem marks o = rw (o.store, le-leb 4096 buffer o.room) o.size
 
   -- later calls with the same parts refuse neither the record nor the parts
-  pub opened-nor-sound : (marks : ℕ) → opened_nor chip buffer l base scratch stage device ≡ Ready s → in_bounds s && parts_fit s chip marks buffer ≡ true
-  opened-nor-sound marks e = let o = opened-nor e in rw (nor-bounds o, nor-fits marks o)
+  pub opened_nor_sound : (marks : ℕ) → opened_nor chip buffer l base scratch stage device ≡ Ready s → in_bounds s && parts_fit s chip marks buffer ≡ true
+  opened_nor_sound marks e = let o = opened_nor_lem e in rw (nor_bounds o, nor_fits_lem marks o)
 
 module _ (chip page pages blocks marks capacity : ℕ) (l : Lists) (base scratch stage device : ℕ) (s : Store) where
   pub record OpenNand : Type 0 where
     pub table : lists_ok l ≡ true
     pub numbers : Geometry page pages blocks
-    pub chip-is : chip ≡ page * pages * blocks
-    pub marks-are : marks ≡ blocks
-    pub capacity-most : capacity ≤ 2147483648
-    pub scratch-fits : base + scratch ≤ 4294967296
+    pub chip_is : chip ≡ page * pages * blocks
+    pub marks_are : marks ≡ blocks
+    pub capacity_most : capacity ≤ 2147483648
+    pub scratch_fits : base + scratch ≤ 4294967296
     pub store : s ≡ nand_store page pages blocks capacity stage device
     pub tested : (geometry_ok page pages blocks ≡ true) × (chip_ok page pages blocks chip marks ≡ true)
 
-  pub opened-nand : opened_nand chip page pages blocks marks capacity l base scratch stage device ≡ Ready s → OpenNand
+  pub opened_nand_lem : opened_nand chip page pages blocks marks capacity l base scratch stage device ≡ Ready s → OpenNand
   unfolding opened_nand numbers_ok scratch_ok
-  opened-nand e =
-      let a = unless-ready (lists_ok l) 12 _ s e in
-      let b = unless-ready (numbers_ok page pages blocks chip marks capacity) 13 _ s a.1 in
-      let c = unless-ready (scratch_ok base scratch) 14 _ s b.1 in
+  opened_nand_lem e =
+      let a = unless_ready (lists_ok l) 12 _ s e in
+      let b = unless_ready (numbers_ok page pages blocks chip marks capacity) 13 _ s a.1 in
+      let c = unless_ready (scratch_ok base scratch) 14 _ s b.1 in
       let g = both (geometry_ok page pages blocks) _ b.0 in
       let h = both (chip_ok page pages blocks chip marks) _ g.1 in
-      let f = chip-facts page pages blocks chip marks h.0 in
+      let f = chip_facts page pages blocks chip marks h.0 in
       record {
         table = a.0;
         numbers = geometry page pages blocks g.0;
-        chip-is = f.0;
-        marks-are = f.1;
-        capacity-most = leb-true capacity 2147483648 h.1;
-        scratch-fits = leb-true (base + scratch) 4294967296 c.0;
-        store = ready-is (nand_store page pages blocks capacity stage device) s c.1;
+        chip_is = f.0;
+        marks_are = f.1;
+        capacity_most = leb-true capacity 2147483648 h.1;
+        scratch_fits = leb-true (base + scratch) 4294967296 c.0;
+        store = ready_is (nand_store page pages blocks capacity stage device) s c.1;
         tested = (g.0, h.0);
       }
 
-  nand-bounds : OpenNand → in_bounds s ≡ true
+  nand_bounds : OpenNand → in_bounds s ≡ true
   unfolding in_bounds held_ok
-  nand-bounds o = rw (o.store, le-leb capacity 2147483648 o.capacity-most, o.tested.0)
+  nand_bounds o = rw (o.store, le-leb capacity 2147483648 o.capacity_most, o.tested.0)
 
-  nand-fits : (buffer : ℕ) → 4096 ≤ buffer → OpenNand → parts_fit s chip marks buffer ≡ true
+  nand_fits : (buffer : ℕ) → 4096 ≤ buffer → OpenNand → parts_fit s chip marks buffer ≡ true
   unfolding parts_fit
-  nand-fits buffer h o = rw (o.store, le-leb 4096 buffer h) o.tested.1
+  nand_fits buffer h o = rw (o.store, le-leb 4096 buffer h) o.tested.1
 
-  pub opened-nand-sound : (buffer : ℕ) → 4096 ≤ buffer → opened_nand chip page pages blocks marks capacity l base scratch stage device ≡ Ready s
+  pub opened_nand_sound : (buffer : ℕ) → 4096 ≤ buffer → opened_nand chip page pages blocks marks capacity l base scratch stage device ≡ Ready s
       → in_bounds s && parts_fit s chip marks buffer ≡ true
-  opened-nand-sound buffer h e = let o = opened-nand e in rw (nand-bounds o, nand-fits buffer h o)
+  opened_nand_sound buffer h e = let o = opened_nand_lem e in rw (nand_bounds o, nand_fits buffer h o)

@@ -13,14 +13,14 @@ unfolding over
 length_over a xs l h = simp (length-append, length-take, length-drop) (omega arith)
 
 -- nothing lies over nothing
-pub over-nil : (a : ℕ) (l : List ℕ) → over a [] l ≡ l
+pub over_nil : (a : ℕ) (l : List ℕ) → over a [] l ≡ l
 unfolding over
-over-nil a l = take-append-drop a l
+over_nil a l = take-append-drop a l
 
 -- what lies over is what counts
-pub over-over : (a : ℕ) (xs ys l : List ℕ) → length xs ≡ length ys → a + length ys ≤ length l → over a ys (over a xs l) ≡ over a ys l
+pub over_over : (a : ℕ) (xs ys l : List ℕ) → length xs ≡ length ys → a + length ys ≤ length l → over a ys (over a xs l) ≡ over a ys l
 unfolding over
-over-over a xs ys l q h =
+over_over a xs ys l q h =
     let p : length (take a l) ≡ a = length-take-le a l (omega arith) in
     rw (
       take_at (take a l) (xs ++ drop (length xs) (drop a l)) a p,
@@ -30,9 +30,9 @@ over-over a xs ys l q h =
     )
 
 -- what lies side by side lies there as one
-pub over-append : (a : ℕ) (xs ys l : List ℕ) → a + length xs ≤ length l → over (a + length xs) ys (over a xs l) ≡ over a (xs ++ ys) l
+pub over_append : (a : ℕ) (xs ys l : List ℕ) → a + length xs ≤ length l → over (a + length xs) ys (over a xs l) ≡ over a (xs ++ ys) l
 unfolding over
-over-append a xs ys l h =
+over_append a xs ys l h =
     let p : length (take a l) ≡ a = length-take-le a l (omega arith) in
     let r : List ℕ = drop (length xs) (drop a l) in
     let n : length (take a l ++ xs) ≡ a + length xs = length-append (take a l) xs ∙ ap (λ (k : ℕ). k + length xs) p in
@@ -45,21 +45,21 @@ over-append a xs ys l h =
     ) (simp append_assoc)
 
 -- what lies there already changes nothing
-pub over-same : (a n : ℕ) (l : List ℕ) → a + n ≤ length l → over a (take n (drop a l)) l ≡ l
+pub over_same : (a n : ℕ) (l : List ℕ) → a + n ≤ length l → over a (take n (drop a l)) l ≡ l
 unfolding over
-over-same a n l h =
+over_same a n l h =
     let p : length (take n (drop a l)) ≡ n = length-take-le n (drop a l) (simp length-drop (omega arith)) in
     rw (p, take-append-drop n (drop a l), take-append-drop a l)
 
-set-append-add : (xs ys : List ℕ) (i x : ℕ) → set (xs ++ ys) (length xs + i) x ≡ xs ++ set ys i x
-set-append-add [] ys i x = ap (λ (k : ℕ). set ys k x) (zero-add i)
-set-append-add (z ∷ xs) ys i x = ap (λ (k : ℕ). set (z ∷ (xs ++ ys)) k x) (suc-add (length xs) i) ∙ ap (λ (r : List ℕ). z ∷ r) (set-append-add xs ys i x)
+set_append_add : (xs ys : List ℕ) (i x : ℕ) → set (xs ++ ys) (length xs + i) x ≡ xs ++ set ys i x
+set_append_add [] ys i x = ap (λ (k : ℕ). set ys k x) (zero-add i)
+set_append_add (z ∷ xs) ys i x = ap (λ (k : ℕ). set (z ∷ (xs ++ ys)) k x) (suc-add (length xs) i) ∙ ap (λ (r : List ℕ). z ∷ r) (set_append_add xs ys i x)
 
 -- a byte set in what lies over
-pub over-set : (a n i x : ℕ) (b l : List ℕ) → i < n → n ≤ length b → a ≤ length l → over a (take n (set b i x)) l ≡ set (over a (take n b) l) (a + i) x
+pub over_set : (a n i x : ℕ) (b l : List ℕ) → i < n → n ≤ length b → a ≤ length l → over a (take n (set b i x)) l ≡ set (over a (take n b) l) (a + i) x
 unfolding over
-over-set a n i x b l h k m =
+over_set a n i x b l h k m =
     let p : length (take a l) ≡ a = length-take-le a l m in
     let w : List ℕ = drop (length (take n b)) (drop a l) in
     let q : i < length (take n b) = simp length-take (omega arith) in
-    rw (take-set-lt n b i x h, length-set (take n b) i x, ← set-append_left (take n b) w i x q, ← set-append-add (take a l) (take n b ++ w) i x, p)
+    rw (take-set-lt n b i x h, length-set (take n b) i x, ← set-append_left (take n b) w i x q, ← set_append_add (take a l) (take n b ++ w) i x, p)

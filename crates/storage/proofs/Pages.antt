@@ -6,17 +6,17 @@ use native.Mathlib.Omega.{arith}
 use Rattle.storage.specs.Fold.{base}
 
 -- n bytes further in the same page
-pub mod-on : (a n p : ℕ) → a % p + n < p → (a + n) % p ≡ a % p + n
-mod-on a n p h =
+pub mod_on : (a n p : ℕ) → a % p + n < p → (a + n) % p ≡ a % p + n
+mod_on a n p h =
     let e : a + n ≡ a / p * p + (a % p + n) = omega (arith, div-add-mod' a p) in
     ap (λ (k : ℕ). k % p) e ∙ mul-add-mod_self_right (a / p) p (a % p + n) ∙ mod-eq_of_lt h
 
 pub base_on : (a n p : ℕ) → a % p + n < p → base p (a + n) ≡ base p a
-base_on a n p h = rw (mod-on a n p h) (omega arith)
+base_on a n p h = rw (mod_on a n p h) (omega arith)
 
 -- the page is full
-pub mod-full : (a n p : ℕ) → a % p + n ≡ p → (a + n) % p ≡ 0
-mod-full a n p h =
+pub mod_full : (a n p : ℕ) → a % p + n ≡ p → (a + n) % p ≡ 0
+mod_full a n p h =
     let e : a + n ≡ a / p * p + p = omega (arith, div-add-mod' a p) in
     ap (λ (k : ℕ). k % p) e ∙ mul-add-mod_self_right (a / p) p p ∙ mod_self p
 

@@ -1,6 +1,6 @@
 -- Powers of two by their bits: a number with exactly one bit set is a power of two, and its trailing zeros are the exponent. So the
 -- tests of row 13 that count bits are the definition's, and a shift divides by the page size. Exported: `one_bit`, `ones_power`,
--- `trailing-power`, `page-power`, `pages-power`, `page-bounds`, `pages-bounds`, `shift-page`.
+-- `trailing_power`, `page_power`, `pages_power`, `page_bounds`, `pages_bounds`, `shift_page`.
 use mathlib.Core.Path.{◌≡◌, refl, sym, ap, ◌∙◌}
 use mathlib.Core.Bool.{Bool, true, false, not, ◌&&◌, ◌||◌}
 use mathlib.Core.List.{List, [], ◌∷◌}
@@ -13,29 +13,29 @@ use lib.Dec.{leb, eqb}
 use lib.Pow.{pow_pos, pow_mono}
 use Rattle.storage.specs.Open.{one_of, page_ok, pages_ok, shift_of}
 
-false-true : {A : Type 0} → false ≡ true → A
-false-true e = absurd (let z : ◌≡◌ {A = ℕ} 0 1 = cc in omega arith)
+false_true : {A : Type 0} → false ≡ true → A
+false_true e = absurd (let z : ◌≡◌ {A = ℕ} 0 1 = cc in omega arith)
 
 -- ---- one bit
 
-ones-zero : ones 0 ≡ 0
+ones_zero : ones 0 ≡ 0
 unfolding ones ones_in
-ones-zero = refl
+ones_zero = refl
 
 -- no bit: 0
-none-set : (k n : ℕ) → n < 2 ^ k → ones n ≡ 0 → n ≡ 0
-none-set zero n h e = omega arith
-none-set (suc k) n h e =
+none_set : (k n : ℕ) → n < 2 ^ k → ones n ≡ 0 → n ≡ 0
+none_set zero n h e = omega arith
+none_set (suc k) n h e =
     let s = ones_step n in
     let b : n / 2 < 2 ^ k = omega (arith, pow-suc 2 k) in
-    let z = none-set k (n / 2) b (omega arith) in
+    let z = none_set k (n / 2) b (omega arith) in
     omega arith
 
 -- one bit: a power of two
 pub one_bit : (k n : ℕ) → n < 2 ^ k → ones n ≡ 1 → (j : ℕ) × (j < k) × (n ≡ 2 ^ j)
 one_bit zero n h e =
     let z : n ≡ 0 = omega arith in
-    let q : ones n ≡ 0 = ap ones z ∙ ones-zero in
+    let q : ones n ≡ 0 = ap ones z ∙ ones_zero in
     absurd (omega arith)
 one_bit (suc k) n h e = go (n % 2) refl (λ q. one_bit k (n / 2) (omega (arith, pow-suc 2 k)) q)
   where
@@ -44,7 +44,7 @@ one_bit (suc k) n h e = go (n % 2) refl (λ q. one_bit k (n / 2) (omega (arith, 
         let g = f (omega (arith, ones_step n)) in
         (suc g.0, omega arith, omega (arith, pow-suc 2 g.0))
     go (suc zero) q f =
-        let z = none-set k (n / 2) (omega (arith, pow-suc 2 k)) (omega (arith, ones_step n)) in
+        let z = none_set k (n / 2) (omega (arith, pow-suc 2 k)) (omega (arith, ones_step n)) in
         (0, omega arith, omega arith)
     go (suc (suc r)) q f = absurd (omega arith)
 
@@ -56,14 +56,14 @@ ones_power j =
     ap ones e ∙ ones_cat j 1 0 (pow_pos j)
 
 -- and the zeros below it are its exponent
-pub trailing-power : (k j : ℕ) → j < k → count_trailing_zeros k (2 ^ j) ≡ j
+pub trailing_power : (k j : ℕ) → j < k → count_trailing_zeros k (2 ^ j) ≡ j
 unfolding count_trailing_zeros
-trailing-power zero j h = absurd (not-suc-le-zero h)
-trailing-power (suc k) zero h = refl
-trailing-power (suc k) (suc j) h =
+trailing_power zero j h = absurd (not-suc-le-zero h)
+trailing_power (suc k) zero h = refl
+trailing_power (suc k) (suc j) h =
     let e : 2 ^ suc j % 2 ≡ 0 = omega (arith, pow-suc 2 j) in
     let f : 2 ^ suc j / 2 ≡ 2 ^ j = omega (arith, pow-suc 2 j) in
-    rw (e, f) (ap suc (trailing-power k j (omega arith)))
+    rw (e, f) (ap suc (trailing_power k j (omega arith)))
 
 -- ---- the powers from 2 ^ a on
 
@@ -71,10 +71,10 @@ powers : ℕ → ℕ → List ℕ
 powers a zero = []
 powers a (suc m) = 2 ^ a ∷ powers (suc a) m
 
-one-of-power : (a m n : ℕ) → one_of (powers a m) n ≡ true → (j : ℕ) × (n ≡ 2 ^ j) × (a ≤ j) × (j < a + m)
+one_of_power : (a m n : ℕ) → one_of (powers a m) n ≡ true → (j : ℕ) × (n ≡ 2 ^ j) × (a ≤ j) × (j < a + m)
 unfolding one_of powers
-one-of-power a zero n e = false-true e
-one-of-power a (suc m) n e = go (eqb n (2 ^ a)) refl e (one-of-power (suc a) m n)
+one_of_power a zero n e = false_true e
+one_of_power a (suc m) n e = go (eqb n (2 ^ a)) refl e (one_of_power (suc a) m n)
   where
     go : (t : Bool) → eqb n (2 ^ a) ≡ t → t || one_of (powers (suc a) m) n ≡ true
         → (one_of (powers (suc a) m) n ≡ true → (j : ℕ) × (n ≡ 2 ^ j) × (suc a ≤ j) × (j < suc a + m)) → (j : ℕ) × (n ≡ 2 ^ j) × (a ≤ j) × (j < a + suc m)
@@ -88,36 +88,36 @@ up_to : (ℕ → Bool) → ℕ → Bool
 up_to f zero = true
 up_to f (suc n) = f n && up_to f n
 
-up-to : (f : ℕ → Bool) (n : ℕ) → up_to f n ≡ true → (k : ℕ) → k < n → f k ≡ true
+up_to_lem : (f : ℕ → Bool) (n : ℕ) → up_to f n ≡ true → (k : ℕ) → k < n → f k ≡ true
 unfolding up_to
-up-to f zero e k h = absurd (not-suc-le-zero h)
-up-to f (suc n) e k h = go (f n) refl e (eqb k n) refl (λ q. up-to f n q k)
+up_to_lem f zero e k h = absurd (not-suc-le-zero h)
+up_to_lem f (suc n) e k h = go (f n) refl e (eqb k n) refl (λ q. up_to_lem f n q k)
   where
     go : (t : Bool) → f n ≡ t → t && up_to f n ≡ true → (s : Bool) → eqb k n ≡ s → (up_to f n ≡ true → k < n → f k ≡ true) → f k ≡ true
     go true p z true s g = ap f (eqb-true k n s) ∙ p
     go true p z false s g = g z (omega (arith, eqb-false k n s))
-    go false p z b s g = false-true z
+    go false p z b s g = false_true z
 
 -- ---- row 13's powers
 
-pub page-power : (n : ℕ) → page_ok n ≡ true → (j : ℕ) × (n ≡ 2 ^ j) × (9 ≤ j) × (j < 13)
+pub page_power : (n : ℕ) → page_ok n ≡ true → (j : ℕ) × (n ≡ 2 ^ j) × (9 ≤ j) × (j < 13)
 unfolding page_ok powers
-page-power n e = one-of-power 9 4 n e
+page_power n e = one_of_power 9 4 n e
 
-pub pages-power : (n : ℕ) → pages_ok n ≡ true → (j : ℕ) × (n ≡ 2 ^ j) × (0 ≤ j) × (j < 9)
+pub pages_power : (n : ℕ) → pages_ok n ≡ true → (j : ℕ) × (n ≡ 2 ^ j) × (0 ≤ j) × (j < 9)
 unfolding pages_ok powers
-pages-power n e = one-of-power 0 9 n e
+pages_power n e = one_of_power 0 9 n e
 
-pub page-bounds : (n : ℕ) → page_ok n ≡ true → (512 ≤ n) × (n ≤ 4096)
-page-bounds n e =
-    let p = page-power n e in
+pub page_bounds : (n : ℕ) → page_ok n ≡ true → (512 ≤ n) × (n ≤ 4096)
+page_bounds n e =
+    let p = page_power n e in
     let a : 2 ^ 9 ≤ 2 ^ p.0 = pow_mono p.2 in
     let b : 2 ^ p.0 ≤ 2 ^ 12 = pow_mono {j = 12} (omega arith) in
     (omega arith, omega arith)
 
-pub pages-bounds : (n : ℕ) → pages_ok n ≡ true → (1 ≤ n) × (n ≤ 256)
-pages-bounds n e =
-    let p = pages-power n e in
+pub pages_bounds : (n : ℕ) → pages_ok n ≡ true → (1 ≤ n) × (n ≤ 256)
+pages_bounds n e =
+    let p = pages_power n e in
     let a : 2 ^ 0 ≤ 2 ^ p.0 = pow_mono p.2 in
     let b : 2 ^ p.0 ≤ 2 ^ 8 = pow_mono {j = 8} (omega arith) in
     (omega arith, omega arith)
@@ -134,7 +134,7 @@ counted n b f g = go (eqb (ones n) 1) b refl f g
   where
     go : (t u : Bool) → eqb (ones n) 1 ≡ t → (ones n ≡ 1 → u ≡ true) → (u ≡ true → (j : ℕ) × (n ≡ 2 ^ j)) → t ≡ u
     go true true q k m = refl
-    go true false q k m = false-true (k (eqb-true (ones n) 1 q))
+    go true false q k m = false_true (k (eqb-true (ones n) 1 q))
     go false true q k m =
         let p = m refl in
         absurd (eqb-false (ones n) 1 q (ap ones p.1 ∙ ones_power p.0))
@@ -143,52 +143,52 @@ counted n b f g = go (eqb (ones n) 1) b refl f g
 tested : ℕ → Bool
 tested k = not (leb 512 (2 ^ k)) || page_ok (2 ^ k)
 
-page-tested : up_to tested 13 ≡ true
+page_tested : up_to tested 13 ≡ true
 unfolding up_to tested page_ok one_of
-page-tested = refl
+page_tested = refl
 
-pages-tested : up_to (λ k. pages_ok (2 ^ k)) 9 ≡ true
+pages_tested : up_to (λ k. pages_ok (2 ^ k)) 9 ≡ true
 unfolding up_to pages_ok one_of
-pages-tested = refl
+pages_tested = refl
 
 module _ (n : ℕ) where
-  pub page-low : n < 512 → false ≡ page_ok n
-  page-low h = refuted (page_ok n) (λ e. omega (arith, page-bounds n e))
+  pub page_low : n < 512 → false ≡ page_ok n
+  page_low h = refuted (page_ok n) (λ e. omega (arith, page_bounds n e))
 
-  pub page-high : 4096 < n → false ≡ page_ok n
-  page-high h = refuted (page_ok n) (λ e. omega (arith, page-bounds n e))
+  pub page_high : 4096 < n → false ≡ page_ok n
+  page_high h = refuted (page_ok n) (λ e. omega (arith, page_bounds n e))
 
-  pub page-bits : 512 ≤ n → n ≤ 4096 → eqb (ones n) 1 ≡ page_ok n
+  pub page_bits : 512 ≤ n → n ≤ 4096 → eqb (ones n) 1 ≡ page_ok n
   unfolding tested
-  page-bits lo hi = counted n (page_ok n) one (λ e. let p = page-power n e in (p.0, p.1))
+  page_bits lo hi = counted n (page_ok n) one (λ e. let p = page_power n e in (p.0, p.1))
     where
       go : (t : Bool) {u : Bool} → t ≡ true → not t || u ≡ true → u ≡ true
       go true q h = h
-      go false q h = false-true q
+      go false q h = false_true q
 
       one : ones n ≡ 1 → page_ok n ≡ true
       one e =
           let p = one_bit 13 n (omega arith) e in
           let w : 512 ≤ 2 ^ p.0 = omega arith in
-          ap page_ok p.2 ∙ go (leb 512 (2 ^ p.0)) (le-leb 512 (2 ^ p.0) w) (up-to tested 13 page-tested p.0 p.1)
+          ap page_ok p.2 ∙ go (leb 512 (2 ^ p.0)) (le-leb 512 (2 ^ p.0) w) (up_to_lem tested 13 page_tested p.0 p.1)
 
-  pub pages-high : 256 < n → false ≡ pages_ok n
-  pages-high h = refuted (pages_ok n) (λ e. omega (arith, pages-bounds n e))
+  pub pages_high : 256 < n → false ≡ pages_ok n
+  pages_high h = refuted (pages_ok n) (λ e. omega (arith, pages_bounds n e))
 
-  pub pages-bits : n ≤ 256 → eqb (ones n) 1 ≡ pages_ok n
-  pages-bits hi = counted n (pages_ok n) one (λ e. let p = pages-power n e in (p.0, p.1))
+  pub pages_bits : n ≤ 256 → eqb (ones n) 1 ≡ pages_ok n
+  pages_bits hi = counted n (pages_ok n) one (λ e. let p = pages_power n e in (p.0, p.1))
     where
       one : ones n ≡ 1 → pages_ok n ≡ true
       one e =
           let p = one_bit 9 n (omega arith) e in
-          ap pages_ok p.2 ∙ up-to (λ k. pages_ok (2 ^ k)) 9 pages-tested p.0 p.1
+          ap pages_ok p.2 ∙ up_to_lem (λ k. pages_ok (2 ^ k)) 9 pages_tested p.0 p.1
 
   -- the shift of a page size
-  pub shift-page : page_ok n ≡ true → (2 ^ shift_of n ≡ n) × (shift_of n < 64)
-  shift-page e =
-      let p = page-power n e in
-      let s : shift_of n ≡ p.0 = ap (count_trailing_zeros 64) p.1 ∙ trailing-power 64 p.0 (omega arith) in
+  pub shift_page : page_ok n ≡ true → (2 ^ shift_of n ≡ n) × (shift_of n < 64)
+  shift_page e =
+      let p = page_power n e in
+      let s : shift_of n ≡ p.0 = ap (count_trailing_zeros 64) p.1 ∙ trailing_power 64 p.0 (omega arith) in
       (ap (λ (k : ℕ). 2 ^ k) s ∙ sym p.1, omega arith)
 
-pub page-some : (p : ℕ) → page_ok p ≡ true → 0 < p
-page-some p e = let b = (page-bounds p e).0 in omega arith
+pub page_some : (p : ℕ) → page_ok p ≡ true → 0 < p
+page_some p e = let b = (page_bounds p e).0 in omega arith

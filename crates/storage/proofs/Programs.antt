@@ -10,28 +10,28 @@ use borrow.Rule.Slice.PartMut.{put_mid}
 use lib.ListN.{length, take, drop, length-drop}
 use lib.Seq.{length-take-le}
 use Rattle.wire.specs.Bytes.{laid}
-use Rattle.wire.proofs.Copies.{laid-fits}
+use Rattle.wire.proofs.Copies.{laid_fits}
 use Rattle.storage.specs.declared.types.Store.{Store}
 use Rattle.storage.specs.World.{Dev, dev, out}
 use Rattle.storage.specs.Chip.{failing, able, called, over, programs, got, fetched}
-use Rattle.storage.proofs.Chips.{able-fits}
+use Rattle.storage.proofs.Chips.{able_fits}
 use Rattle.storage.proofs.Over.{length_over}
 
 module _ (F : List ℕ) (s : Store) (chip : List ℕ) (a : ℕ) (xs b : List ℕ) {st : Store} (q : st ≡ called s) where
-  pub programs-fails : able F s chip a (length xs) ≡ false → out false (dev st chip b) ≡ programs F a xs (dev s chip b)
+  pub programs_fails : able F s chip a (length xs) ≡ false → out false (dev st chip b) ≡ programs F a xs (dev s chip b)
   unfolding programs
-  programs-fails e = rw (q, e)
+  programs_fails e = rw (q, e)
 
   -- the part `&mut chip[a..e]` comes back as the bytes
-  pub programs-part : (e : ℕ) {ys : List ℕ} → able F s chip a (length xs) ≡ true → e ≡ a + length xs → ys ≡ xs
+  pub programs_part : (e : ℕ) {ys : List ℕ} → able F s chip a (length xs) ≡ true → e ≡ a + length xs → ys ≡ xs
       → out true (dev st (put_mid a (e - a) chip ys) b) ≡ programs F a xs (dev s chip b)
   unfolding programs over
-  programs-part e t p r = let k : e - a ≡ length xs = omega arith in rw (q, t, k, r)
+  programs_part e t p r = let k : e - a ≡ length xs = omega arith in rw (q, t, k, r)
 
   -- the bytes were laid over the chip
-  pub programs-laid : {c : List ℕ} → able F s chip a (length xs) ≡ true → c ≡ laid chip a xs → out true (dev st c b) ≡ programs F a xs (dev s chip b)
+  pub programs_laid : {c : List ℕ} → able F s chip a (length xs) ≡ true → c ≡ laid chip a xs → out true (dev st c b) ≡ programs F a xs (dev s chip b)
   unfolding programs over
-  programs-laid t r = rw (q, t, r, laid-fits chip a xs (able-fits F s chip a (length xs) t))
+  programs_laid t r = rw (q, t, r, laid_fits chip a xs (able_fits F s chip a (length xs) t))
 
 -- ---- what every chip call keeps, whether it succeeds or not: the record but for its number, the buffer, the size of the chip
 
@@ -40,46 +40,46 @@ pub record Call (d e : Dev) : Type 0 where
   pub buf : e.buf ≡ d.buf
   pub size : length e.chip ≡ length d.chip
 
-pub programs-call : (F : List ℕ) (a : ℕ) (xs : List ℕ) (d : Dev) → Call d (programs F a xs d).dev
+pub programs_call : (F : List ℕ) (a : ℕ) (xs : List ℕ) (d : Dev) → Call d (programs F a xs d).dev
 unfolding programs
-programs-call F a xs d = go (able F d.store d.chip a (length xs)) refl
+programs_call F a xs d = go (able F d.store d.chip a (length xs)) refl
   where
     go : (b : Bool) → able F d.store d.chip a (length xs) ≡ b
         → Call d (cond b (out true (dev (called d.store) (over a xs d.chip) d.buf)) (out false (dev (called d.store) d.chip d.buf))).dev
-    go true t = record { number = refl; buf = refl; size = length_over a xs d.chip (able-fits F d.store d.chip a (length xs) t) }
+    go true t = record { number = refl; buf = refl; size = length_over a xs d.chip (able_fits F d.store d.chip a (length xs) t) }
     go false t = record { number = refl; buf = refl; size = refl }
 
 module _ (F : List ℕ) (a : ℕ) (s : Store) (chip room : List ℕ) where
-  pub fetched-number : (fetched F a s chip room).store ≡ called s
+  pub fetched_number : (fetched F a s chip room).store ≡ called s
   unfolding fetched
-  fetched-number = go (able F s chip a (length room))
+  fetched_number = go (able F s chip a (length room))
     where
       go : (b : Bool) → (cond b (got true (called s) (take (length room) (drop a chip))) (got false (called s) room)).store ≡ called s
       go true = refl
       go false = refl
 
-  pub fetched-length : length (fetched F a s chip room).room ≡ length room
+  pub fetched_length : length (fetched F a s chip room).room ≡ length room
   unfolding fetched
-  fetched-length = go (able F s chip a (length room)) refl
+  fetched_length = go (able F s chip a (length room)) refl
     where
       go : (b : Bool) → able F s chip a (length room) ≡ b
           → length (cond b (got true (called s) (take (length room) (drop a chip))) (got false (called s) room)).room ≡ length room
       go true t =
-          let h = able-fits F s chip a (length room) t in
+          let h = able_fits F s chip a (length room) t in
           length-take-le (length room) (drop a chip) (simp length-drop (omega arith))
       go false t = refl
 
 -- ---- a call in range that is not told to fail
 
 module _ (F : List ℕ) (s : Store) (chip : List ℕ) (well : failing F s.calls ≡ false) where
-  able-well : (a n : ℕ) → a + n ≤ length chip → able F s chip a n ≡ true
+  able_well : (a n : ℕ) → a + n ≤ length chip → able F s chip a n ≡ true
   unfolding able
-  able-well a n h = rw (le-leb (a + n) (length chip) h, well)
+  able_well a n h = rw (le-leb (a + n) (length chip) h, well)
 
-  pub programs-well : (a : ℕ) (xs b : List ℕ) → a + length xs ≤ length chip → programs F a xs (dev s chip b) ≡ out true (dev (called s) (over a xs chip) b)
+  pub programs_well : (a : ℕ) (xs b : List ℕ) → a + length xs ≤ length chip → programs F a xs (dev s chip b) ≡ out true (dev (called s) (over a xs chip) b)
   unfolding programs
-  programs-well a xs b h = rw (able-well a (length xs) h)
+  programs_well a xs b h = rw (able_well a (length xs) h)
 
-  pub fetched-well : (a : ℕ) (room : List ℕ) → a + length room ≤ length chip → fetched F a s chip room ≡ got true (called s) (take (length room) (drop a chip))
+  pub fetched_well : (a : ℕ) (room : List ℕ) → a + length room ≤ length chip → fetched F a s chip room ≡ got true (called s) (take (length room) (drop a chip))
   unfolding fetched
-  fetched-well a room h = rw (able-well a (length room) h)
+  fetched_well a room h = rw (able_well a (length room) h)

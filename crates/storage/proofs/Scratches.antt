@@ -27,8 +27,8 @@ use Rattle.storage.proofs.Nors.{counts, read_count}
 -- ---- pieces of a list
 
 -- a piece is never longer than what is left
-pub take-least : (p : ℕ) (xs : List ℕ) → take (min p (length xs)) xs ≡ take p xs
-take-least p xs = go (leb p (length xs)) refl
+pub take_least : (p : ℕ) (xs : List ℕ) → take (min p (length xs)) xs ≡ take p xs
+take_least p xs = go (leb p (length xs)) refl
   where
     go : (b : Bool) → leb p (length xs) ≡ b → take (min p (length xs)) xs ≡ take p xs
     go true e =
@@ -39,8 +39,8 @@ take-least p xs = go (leb p (length xs)) refl
         let h : length xs < p = leb-false p (length xs) e in
         take_all (min p (length xs)) xs (omega arith) ∙ sym (take_all p xs (omega arith))
 
-pub drop-least : (p : ℕ) (xs : List ℕ) → drop (min p (length xs)) xs ≡ drop p xs
-drop-least p xs = go (leb p (length xs)) refl
+pub drop_least : (p : ℕ) (xs : List ℕ) → drop (min p (length xs)) xs ≡ drop p xs
+drop_least p xs = go (leb p (length xs)) refl
   where
     go : (b : Bool) → leb p (length xs) ≡ b → drop (min p (length xs)) xs ≡ drop p xs
     go true e =
@@ -54,8 +54,8 @@ drop-least p xs = go (leb p (length xs)) refl
         drop_of_length-le xs i ∙ sym (drop_of_length-le xs j)
 
 -- the pieces of n bytes are one and those of the rest
-pub pages-suc : (n : ℕ) → 0 < n → pages_of 256 n ≡ suc (pages_of 256 (n - 256))
-pages-suc n h = omega arith
+pub pages_suc : (n : ℕ) → 0 < n → pages_of 256 n ≡ suc (pages_of 256 (n - 256))
+pages_suc n h = omega arith
 
 -- ---- what a write tells
 
@@ -68,9 +68,9 @@ counted true Nand u true x y n d e f h i = i
 counted true Nand u false x y n d e f h i = zero-le
 counted false k u v x y n d e f h i = zero-le
 
-pub write-count : (l : Lent) (off : ℕ) (xs : List ℕ) (d : Dev) {t : Told} → t ≡ writing l off xs d → t.count ≤ length xs
+pub write_count : (l : Lent) (off : ℕ) (xs : List ℕ) (d : Dev) {t : Told} → t ≡ writing l off xs d → t.count ≤ length xs
 unfolding writing by_good NorOf.written NandOf.written
-write-count l off xs d q =
+write_count l off xs d q =
     let p = d.store.shape.page in
     let a = no_more 4096 (NorOf.loads l.faults) (NorOf.closes l.faults) xs (run true off d) in
     let b = no_more p (NandOf.loads l p) NandOf.stays xs (run true off d) in
@@ -83,55 +83,55 @@ done : (b : Bool) (t u : Told) → (cond b (told 0 t.count t.dev) (told 0 u.coun
 done true t u = refl
 done false t u = refl
 
-out-status : (k : ℕ) (l : Lent) (off : ℕ) (xs : List ℕ) (d : Dev) → (out_k k l off xs d).status ≡ 0
+out_status : (k : ℕ) (l : Lent) (off : ℕ) (xs : List ℕ) (d : Dev) → (out_k k l off xs d).status ≡ 0
 unfolding out_k
-out-status zero l off xs d = refl
-out-status (suc k) l off xs d =
+out_status zero l off xs d = refl
+out_status (suc k) l off xs d =
     let t = writing l off (take 256 xs) d in
     done (eqb t.count (length (take 256 xs))) (plus t.count (out_k k l (sat_add off t.count) (drop 256 xs) t.dev)) t
 
 -- nothing counted yet
 pub plus_none : (k : ℕ) (l : Lent) (off : ℕ) (xs : List ℕ) (d : Dev) → plus 0 (out_k k l off xs d) ≡ out_k k l off xs d
 plus_none k l off xs d =
-    λ i. record { status = sym (out-status k l off xs d) i; count = zero-add (out_k k l off xs d).count i; dev = (out_k k l off xs d).dev }
+    λ i. record { status = sym (out_status k l off xs d) i; count = zero-add (out_k k l off xs d).count i; dev = (out_k k l off xs d).dev }
 
 -- a piece of n bytes is the definition's
 module _ (xs : List ℕ) {n : ℕ} (h : 0 < length xs) (m : n ≡ min 256 (length xs)) where
   piece : take n xs ≡ take 256 xs
-  piece = ap (λ (k : ℕ). take k xs) m ∙ take-least 256 xs
+  piece = ap (λ (k : ℕ). take k xs) m ∙ take_least 256 xs
 
   long : length (take 256 xs) ≡ n
   long = length-take 256 xs ∙ sym m
 
   rest : drop 256 xs ≡ drop n xs
-  rest = sym (ap (λ (k : ℕ). drop k xs) m ∙ drop-least 256 xs)
+  rest = sym (ap (λ (k : ℕ). drop k xs) m ∙ drop_least 256 xs)
 
   fewer : pages_of 256 (length xs) ≡ suc (pages_of 256 (length (drop n xs)))
   fewer =
       let e : length xs - 256 ≡ length (drop n xs) = omega (arith, length-drop n xs) in
-      pages-suc (length xs) h ∙ ap (λ (k : ℕ). suc (pages_of 256 k)) e
+      pages_suc (length xs) h ∙ ap (λ (k : ℕ). suc (pages_of 256 k)) e
 
 module _ (l : Lent) (off : ℕ) (xs : List ℕ) (d : Dev) {t : Told} {n : ℕ} (h : 0 < length xs) (m : n ≡ min 256 (length xs))
     (q : t ≡ writing l off (take n xs) d) where
-  wrote-piece : t ≡ writing l off (take 256 xs) d
-  wrote-piece = q ∙ ap (λ (ys : List ℕ). writing l off ys d) (piece xs h m)
+  wrote_piece : t ≡ writing l off (take 256 xs) d
+  wrote_piece = q ∙ ap (λ (ys : List ℕ). writing l off ys d) (piece xs h m)
 
-  pub out-short : (t.count ≡ n → ⊥) → told 0 t.count t.dev ≡ out_k (pages_of 256 (length xs)) l off xs d
+  pub out_short : (t.count ≡ n → ⊥) → told 0 t.count t.dev ≡ out_k (pages_of 256 (length xs)) l off xs d
   unfolding out_k
-  out-short z = rw (fewer xs h m, ← wrote-piece, long xs h m, ne_eqb t.count n z)
+  out_short z = rw (fewer xs h m, ← wrote_piece, long xs h m, ne_eqb t.count n z)
 
-  pub out-went : t.count ≡ n
+  pub out_went : t.count ≡ n
       → plus n (out_k (pages_of 256 (length (drop n xs))) l (sat_add off n) (drop n xs) t.dev) ≡ out_k (pages_of 256 (length xs)) l off xs d
   unfolding out_k
-  out-went z = rw (fewer xs h m, ← wrote-piece, long xs h m, rest xs h m, z, eq-eqb n n refl)
+  out_went z = rw (fewer xs h m, ← wrote_piece, long xs h m, rest xs h m, z, eq-eqb n n refl)
 
 -- ---- the loop: `done` bytes are counted, and what is left of them gives the rest of the answer
 
 module _ (l : Lent) (at : ℕ) (bs : List ℕ) (done : ℕ) (d : Dev) {w : Told}
     (inv : plus done (out_k (pages_of 256 (length (drop done bs))) l at (drop done bs) d) ≡ w) where
-  pub out-end : length bs ≤ done → told 0 done d ≡ w
+  pub out_end : length bs ≤ done → told 0 done d ≡ w
   unfolding out_k
-  out-end h = sym (ap (λ (k : ℕ). told 0 k d) (add-zero done)) ∙ (rw (drop_of_length-le bs h) at inv)
+  out_end h = sym (ap (λ (k : ℕ). told 0 k d) (add-zero done)) ∙ (rw (drop_of_length-le bs h) at inv)
 
   module _ {t : Told} {n e : ℕ} (h : done < length bs) (m : n ≡ min 256 (length bs - done)) (p : e ≡ done + n)
       (q : t ≡ writing l at (take (e - done) (drop done bs)) d) where
@@ -144,35 +144,35 @@ module _ (l : Lent) (at : ℕ) (bs : List ℕ) (done : ℕ) (d : Dev) {w : Told}
     wrote : t ≡ writing l at (take n (drop done bs)) d
     wrote = let k : e - done ≡ n = omega arith in q ∙ ap (λ (j : ℕ). writing l at (take j (drop done bs)) d) k
 
-    pub out-few : done + t.count ≤ length bs
-    out-few =
-        let k = write-count l at (take n (drop done bs)) d wrote in
+    pub out_few : done + t.count ≤ length bs
+    out_few =
+        let k = write_count l at (take n (drop done bs)) d wrote in
         omega (arith, length-take n (drop done bs), length-drop done bs)
 
-    pub out-stop : (t.count ≡ n → ⊥) → told 0 (done + t.count) t.dev ≡ w
-    out-stop z = ap (plus done) (out-short l at (drop done bs) d some least wrote z) ∙ inv
+    pub out_stop : (t.count ≡ n → ⊥) → told 0 (done + t.count) t.dev ≡ w
+    out_stop z = ap (plus done) (out_short l at (drop done bs) d some least wrote z) ∙ inv
 
-    pub out-again : {a : ℕ} → t.count ≡ n → a ≡ sat_add at n → plus e (out_k (pages_of 256 (length (drop e bs))) l a (drop e bs) t.dev) ≡ w
-    out-again z s =
+    pub out_again : {a : ℕ} → t.count ≡ n → a ≡ sat_add at n → plus e (out_k (pages_of 256 (length (drop e bs))) l a (drop e bs) t.dev) ≡ w
+    out_again z s =
         let x : drop e bs ≡ drop n (drop done bs) = ap (λ (k : ℕ). drop k bs) p ∙ sym (drop-drop n done bs) in
         let r = out_k (pages_of 256 (length (drop n (drop done bs)))) l (sat_add at n) (drop n (drop done bs)) t.dev in
         let k : e + r.count ≡ done + (n + r.count) = omega arith in
         ap₂ (λ (ys : List ℕ) (o : ℕ). plus e (out_k (pages_of 256 (length ys)) l o ys t.dev)) x s
         ∙ ap (λ (j : ℕ). told 0 j r.dev) k
-        ∙ ap (plus done) (out-went l at (drop done bs) d some least wrote z)
+        ∙ ap (plus done) (out_went l at (drop done bs) d some least wrote z)
         ∙ inv
 
 -- the part of scratch that the code takes is the definition's
-part-is : (scratch : List ℕ) (at n e : ℕ) → e ≡ at + min n (length scratch - at) → take (e - at) (drop at scratch) ≡ take n (drop at scratch)
-part-is scratch at n e q =
+part_is : (scratch : List ℕ) (at n e : ℕ) → e ≡ at + min n (length scratch - at) → take (e - at) (drop at scratch) ≡ take n (drop at scratch)
+part_is scratch at n e q =
     let k : e - at ≡ min n (length (drop at scratch)) = rw length-drop (omega arith) in
-    ap (λ (j : ℕ). take j (drop at scratch)) k ∙ take-least n (drop at scratch)
+    ap (λ (j : ℕ). take j (drop at scratch)) k ∙ take_least n (drop at scratch)
 
 module _ (l : Lent) (off at n : ℕ) (scratch : List ℕ) (d : Dev) {g : Bool}
     (p : g ≡ (in_bounds d.store && parts_fit d.store (length d.chip) (length l.marks) (length d.buf))) where
-  pub from-none : g ≡ false → told 9 0 d ≡ from_scratch l off at n scratch d
+  pub from_none : g ≡ false → told 9 0 d ≡ from_scratch l off at n scratch d
   unfolding from_scratch good
-  from-none h = rw (← p, h)
+  from_none h = rw (← p, h)
 
   pub from_past : g ≡ true → length scratch < at → told 0 0 d ≡ from_scratch l off at n scratch d
   unfolding from_scratch good out_k
@@ -181,64 +181,64 @@ module _ (l : Lent) (off at n : ℕ) (scratch : List ℕ) (d : Dev) {g : Bool}
   pub from_told : {t : Told} {e : ℕ} → g ≡ true → e ≡ at + min n (length scratch - at)
       → t ≡ out_k (pages_of 256 (length (take (e - at) (drop at scratch)))) l off (take (e - at) (drop at scratch)) d → t ≡ from_scratch l off at n scratch d
   unfolding from_scratch good
-  from_told {t} {e} h q r = r ∙ rw (part-is scratch at n e q, ← p, h)
+  from_told {t} {e} h q r = r ∙ rw (part_is scratch at n e q, ← p, h)
 
-  pub into-none : g ≡ false → seen (told 9 0 d) scratch ≡ into_scratch l off at n scratch d
+  pub into_none : g ≡ false → seen (told 9 0 d) scratch ≡ into_scratch l off at n scratch d
   unfolding into_scratch good
-  into-none h = rw (← p, h)
+  into_none h = rw (← p, h)
 
-  pub into-past : g ≡ true → length scratch < at → seen (told 0 0 d) scratch ≡ into_scratch l off at n scratch d
+  pub into_past : g ≡ true → length scratch < at → seen (told 0 0 d) scratch ≡ into_scratch l off at n scratch d
   unfolding into_scratch good in_k over
-  into-past h k =
+  into_past h k =
       rw (take_all at scratch (le_of_lt k), drop_of_length-le scratch (le_of_lt k), take-nil, append-nil, ← p, h)
 
-  pub into-told : {s : Seen} {e : ℕ} → g ≡ true → e ≡ at + min n (length scratch - at) → at ≤ length scratch → length s.room ≡ e - at
+  pub into_told : {s : Seen} {e : ℕ} → g ≡ true → e ≡ at + min n (length scratch - at) → at ≤ length scratch → length s.room ≡ e - at
       → s ≡ in_k (pages_of 256 (length (take (e - at) (drop at scratch)))) l off (take (e - at) (drop at scratch)) d
       → seen s.told (put_mid at (e - at) scratch s.room) ≡ into_scratch l off at n scratch d
   unfolding into_scratch good over
-  into-told {s} {e} h q k z r =
+  into_told {s} {e} h q k z r =
       ap (λ (j : ℕ). seen s.told (take at scratch ++ (s.room ++ drop j (drop at scratch)))) (sym z)
-      ∙ ap (λ (x : Seen). seen x.told (over at x.room scratch)) (r ∙ ap (λ (ys : List ℕ). in_k (pages_of 256 (length ys)) l off ys d) (part-is scratch at n e q))
+      ∙ ap (λ (x : Seen). seen x.told (over at x.room scratch)) (r ∙ ap (λ (ys : List ℕ). in_k (pages_of 256 (length ys)) l off ys d) (part_is scratch at n e q))
       ∙ rw (← p, h)
 
 -- ---- into scratch
 
 module _ (l : Lent) (off : ℕ) (xs : List ℕ) (d : Dev) {s : Seen} {n : ℕ} (h : 0 < length xs) (m : n ≡ min 256 (length xs))
     (q : s ≡ reading l off (take n xs) d) where
-  read-piece : s ≡ reading l off (take 256 xs) d
-  read-piece = q ∙ ap (λ (ys : List ℕ). reading l off ys d) (piece xs h m)
+  read_piece : s ≡ reading l off (take 256 xs) d
+  read_piece = q ∙ ap (λ (ys : List ℕ). reading l off ys d) (piece xs h m)
 
-  pub in-short : (s.told.count ≡ n → ⊥) → seen (told 0 s.told.count s.told.dev) (s.room ++ drop n xs) ≡ in_k (pages_of 256 (length xs)) l off xs d
+  pub in_short : (s.told.count ≡ n → ⊥) → seen (told 0 s.told.count s.told.dev) (s.room ++ drop n xs) ≡ in_k (pages_of 256 (length xs)) l off xs d
   unfolding in_k
-  in-short z = rw (fewer xs h m, ← read-piece, long xs h m, rest xs h m, ne_eqb s.told.count n z)
+  in_short z = rw (fewer xs h m, ← read_piece, long xs h m, rest xs h m, ne_eqb s.told.count n z)
 
-  pub in-went : s.told.count ≡ n
+  pub in_went : s.told.count ≡ n
       → (let r = in_k (pages_of 256 (length (drop n xs))) l (sat_add off n) (drop n xs) s.told.dev in seen (plus n r.told) (s.room ++ r.room))
       ≡ in_k (pages_of 256 (length xs)) l off xs d
   unfolding in_k
-  in-went z = rw (fewer xs h m, ← read-piece, long xs h m, rest xs h m, z, eq-eqb n n refl)
+  in_went z = rw (fewer xs h m, ← read_piece, long xs h m, rest xs h m, z, eq-eqb n n refl)
 
 -- a read counts no more bytes than its room has
-counted-in : (b : Bool) (k : Kind) (x y : Seen) (n : ℕ) (d : Dev) (room : List ℕ) → x.told.count ≤ n → y.told.count ≤ n
+counted_in : (b : Bool) (k : Kind) (x y : Seen) (n : ℕ) (d : Dev) (room : List ℕ) → x.told.count ≤ n → y.told.count ≤ n
     → (cond b (by_kind k x y) (seen (told 9 0 d) room)).told.count ≤ n
-counted-in true Nor x y n d room h i = h
-counted-in true Nand x y n d room h i = i
-counted-in false k x y n d room h i = zero-le
+counted_in true Nor x y n d room h i = h
+counted_in true Nand x y n d room h i = i
+counted_in false k x y n d room h i = zero-le
 
-nand-count : (l : Lent) (off : ℕ) (room : List ℕ) (d : Dev) → (NandOf.read_out l off room d).told.count ≤ length room
+nand_count : (l : Lent) (off : ℕ) (room : List ℕ) (d : Dev) → (NandOf.read_out l off room d).told.count ≤ length room
 unfolding NandOf.read_out
-nand-count l off room d =
+nand_count l off room d =
     let f = NandOf.flushes l d in
     let n = min (length room) (f.dev.store.shape.capacity - off) in
     let g = fetched l.faults off f.dev.store f.dev.chip (take n room) in
     counts f.ok (eqb n 0) g.ok (length room) n f.dev (dev g.store f.dev.chip f.dev.buf) room (g.room ++ drop n room) (omega arith)
 
-pub reading-count : (l : Lent) (off : ℕ) (room : List ℕ) (d : Dev) {s : Seen} → s ≡ reading l off room d → s.told.count ≤ length room
+pub reading_count : (l : Lent) (off : ℕ) (room : List ℕ) (d : Dev) {s : Seen} → s ≡ reading l off room d → s.told.count ≤ length room
 unfolding reading by_good
-reading-count l off room d q =
+reading_count l off room d q =
     rw q
-    (counted-in (good l d) d.store.shape.kind (NorOf.read_out l.faults off room d) (NandOf.read_out l off room d) (length room) d room
-    (read_count l.faults off room d refl) (nand-count l off room d))
+    (counted_in (good l d) d.store.shape.kind (NorOf.read_out l.faults off room d) (NandOf.read_out l off room d) (length room) d room
+    (read_count l.faults off room d refl) (nand_count l off room d))
 
 -- ---- the loop: `done` bytes are counted and stand in the room's front, and what is left of the room gives the rest of the answer
 
@@ -250,10 +250,10 @@ finished : (b : Bool) (t u : Told) (x y : List ℕ) → (cond b (seen (told 0 t.
 finished true t u x y = refl
 finished false t u x y = refl
 
-in-status : (k : ℕ) (l : Lent) (off : ℕ) (xs : List ℕ) (d : Dev) → (in_k k l off xs d).told.status ≡ 0
+in_status : (k : ℕ) (l : Lent) (off : ℕ) (xs : List ℕ) (d : Dev) → (in_k k l off xs d).told.status ≡ 0
 unfolding in_k
-in-status zero l off xs d = refl
-in-status (suc k) l off xs d =
+in_status zero l off xs d = refl
+in_status (suc k) l off xs d =
     let s = reading l off (take 256 xs) d in
     let t = s.told in
     let r = in_k k l (sat_add off t.count) (drop 256 xs) t.dev in
@@ -263,7 +263,7 @@ pub in_start : (k : ℕ) (l : Lent) (off : ℕ) (xs : List ℕ) (d : Dev) → (l
 in_start k l off xs d =
     let r = in_k k l off xs d in
     λ i. record {
-      told = record { status = sym (in-status k l off xs d) i; count = zero-add r.told.count i; dev = r.told.dev };
+      told = record { status = sym (in_status k l off xs d) i; count = zero-add r.told.count i; dev = r.told.dev };
       room = r.room;
     }
 
@@ -279,8 +279,8 @@ module _ (l : Lent) (at : ℕ) (rs : List ℕ) (done : ℕ) (d : Dev) {w : Seen}
     in_some : 0 < length (drop done rs)
     in_some = rw length-drop (omega arith)
 
-    in-least : n ≡ min 256 (length (drop done rs))
-    in-least = rw length-drop m
+    in_least : n ≡ min 256 (length (drop done rs))
+    in_least = rw length-drop m
 
     gone : e - done ≡ n
     gone = omega arith
@@ -288,47 +288,47 @@ module _ (l : Lent) (at : ℕ) (rs : List ℕ) (done : ℕ) (d : Dev) {w : Seen}
     was_read : s ≡ reading l at (take n (drop done rs)) d
     was_read = q ∙ ap (λ (j : ℕ). reading l at (take j (drop done rs)) d) gone
 
-    pub in-few : done + s.told.count ≤ length rs
-    in-few =
-        let k = reading-count l at (take n (drop done rs)) d was_read in
+    pub in_few : done + s.told.count ≤ length rs
+    in_few =
+        let k = reading_count l at (take n (drop done rs)) d was_read in
         omega (arith, length-take n (drop done rs), length-drop done rs)
 
     -- the room with what was read in its place
-    now-room : List ℕ
-    now-room = put_mid done (e - done) rs s.room
+    now_room : List ℕ
+    now_room = put_mid done (e - done) rs s.room
 
-    room-is : now-room ≡ take done rs ++ (s.room ++ drop n (drop done rs))
-    unfolding now-room
-    room-is = ap (λ (j : ℕ). take done rs ++ (s.room ++ drop j (drop done rs))) gone
+    room_is : now_room ≡ take done rs ++ (s.room ++ drop n (drop done rs))
+    unfolding now_room
+    room_is = ap (λ (j : ℕ). take done rs ++ (s.room ++ drop j (drop done rs))) gone
 
-    pub in-stop : (s.told.count ≡ n → ⊥) → seen (told 0 (done + s.told.count) s.told.dev) (put_mid done (e - done) rs s.room) ≡ w
-    unfolding now-room
-    in-stop z =
-        ap (seen (told 0 (done + s.told.count) s.told.dev)) room-is
-        ∙ ap (λ (r : Seen). seen (plus done r.told) (take done rs ++ r.room)) (in-short l at (drop done rs) d in_some in-least was_read z)
+    pub in_stop : (s.told.count ≡ n → ⊥) → seen (told 0 (done + s.told.count) s.told.dev) (put_mid done (e - done) rs s.room) ≡ w
+    unfolding now_room
+    in_stop z =
+        ap (seen (told 0 (done + s.told.count) s.told.dev)) room_is
+        ∙ ap (λ (r : Seen). seen (plus done r.told) (take done rs ++ r.room)) (in_short l at (drop done rs) d in_some in_least was_read z)
         ∙ inv
 
     module _ (g : length s.room ≡ n) where
       front : length (take done rs ++ s.room) ≡ e
       front = length-append (take done rs) s.room ∙ omega (arith, length-take-le done rs (le_of_lt h))
 
-      grouped : now-room ≡ (take done rs ++ s.room) ++ drop n (drop done rs)
-      grouped = room-is ∙ sym (append_assoc (take done rs) s.room (drop n (drop done rs)))
+      grouped : now_room ≡ (take done rs ++ s.room) ++ drop n (drop done rs)
+      grouped = room_is ∙ sym (append_assoc (take done rs) s.room (drop n (drop done rs)))
 
-      taken : take e now-room ≡ take done rs ++ s.room
+      taken : take e now_room ≡ take done rs ++ s.room
       taken = ap (take e) grouped ∙ take_at (take done rs ++ s.room) (drop n (drop done rs)) e front
 
-      left : drop e now-room ≡ drop n (drop done rs)
+      left : drop e now_room ≡ drop n (drop done rs)
       left = ap (drop e) grouped ∙ drop_at (take done rs ++ s.room) (drop n (drop done rs)) e front
 
-      pub in-again : {a : ℕ} → s.told.count ≡ n → a ≡ sat_add at n
+      pub in_again : {a : ℕ} → s.told.count ≡ n → a ≡ sat_add at n
           → rest_of e l a (put_mid done (e - done) rs s.room) s.told.dev ≡ w
-      unfolding now-room
-      in-again z k =
+      unfolding now_room
+      in_again z k =
           let r = in_k (pages_of 256 (length (drop n (drop done rs)))) l (sat_add at n) (drop n (drop done rs)) s.told.dev in
           let c : e + r.told.count ≡ done + (n + r.told.count) = omega arith in
-          ap₂ (λ (o : ℕ) (ys : List ℕ). let x = in_k (pages_of 256 (length ys)) l o ys s.told.dev in seen (plus e x.told) (take e now-room ++ x.room)) k left
+          ap₂ (λ (o : ℕ) (ys : List ℕ). let x = in_k (pages_of 256 (length ys)) l o ys s.told.dev in seen (plus e x.told) (take e now_room ++ x.room)) k left
           ∙ ap₂ (λ (j : ℕ) (f : List ℕ). seen (told 0 j r.told.dev) (f ++ r.room)) c taken
           ∙ ap (seen (told 0 (done + (n + r.told.count)) r.told.dev)) (append_assoc (take done rs) s.room r.room)
-          ∙ ap (λ (x : Seen). seen (plus done x.told) (take done rs ++ x.room)) (in-went l at (drop done rs) d in_some in-least was_read z)
+          ∙ ap (λ (x : Seen). seen (plus done x.told) (take done rs ++ x.room)) (in_went l at (drop done rs) d in_some in_least was_read z)
           ∙ inv

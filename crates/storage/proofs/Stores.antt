@@ -16,17 +16,17 @@ use Rattle.storage.proofs.Opens.{sound}
 
 module _ {A : Type 0} (l : Lent) (d : Dev) (nor nand no : A) {g : Bool}
     (p : g ≡ (in_bounds d.store && parts_fit d.store (length d.chip) (length l.marks) (length d.buf))) where
-  pub by-none : g ≡ false → no ≡ by_good l d nor nand no
+  pub by_none : g ≡ false → no ≡ by_good l d nor nand no
   unfolding by_good good
-  by-none h = rw (← p, h)
+  by_none h = rw (← p, h)
 
-  pub by-nor : g ≡ true → d.store.shape.kind ≡ Nor → nor ≡ by_good l d nor nand no
+  pub by_nor : g ≡ true → d.store.shape.kind ≡ Nor → nor ≡ by_good l d nor nand no
   unfolding by_good good
-  by-nor h k = rw (← p, h, k)
+  by_nor h k = rw (← p, h, k)
 
-  pub by-nand : g ≡ true → d.store.shape.kind ≡ Nand → nand ≡ by_good l d nor nand no
+  pub by_nand : g ≡ true → d.store.shape.kind ≡ Nand → nand ≡ by_good l d nor nand no
   unfolding by_good good
-  by-nand h k = rw (← p, h, k)
+  by_nand h k = rw (← p, h, k)
 
 -- what is told of a step's end
 pub reports : (ok : Bool) (s : Store) (chip buf : List ℕ) {r : Answer} → r ≡ answer (status_of ok) 0 s
@@ -45,14 +45,14 @@ module _ (s : Store) (chip marks buf : List ℕ) {g : Bool}
       let n = t.nand k in
       record {
         shaped = record {
-          page-ok = n.numbers.page-ok;
-          page-some = omega (arith, n.numbers.page-low);
-          page-most = n.numbers.page-high;
-          pages-some = omega (arith, n.numbers.pages-low);
-          pages-most = n.numbers.pages-high;
-          blocks-most = n.numbers.blocks-high;
-          marked = n.marks-are;
-          capacity-most = t.capacity-most;
+          page_ok_lem = n.numbers.page_ok_lem;
+          page_some = omega (arith, n.numbers.page_low);
+          page_most = n.numbers.page_high;
+          pages_some = omega (arith, n.numbers.pages_low);
+          pages_most = n.numbers.pages_high;
+          blocks_most = n.numbers.blocks_high;
+          marked = n.marks_are;
+          capacity_most = t.capacity_most;
         };
         room = t.room;
       }

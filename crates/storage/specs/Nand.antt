@@ -17,14 +17,14 @@ use Rattle.storage.specs.Nor.{freed, holding, holds, pages_of, sat_add}
 
 -- the marks and the shape fit together, and the numbers are within their bounds
 pub record Shaped (marks : List ℕ) (h : Shape) : Type 0 where
-  pub page-ok : page_ok h.page ≡ true
-  pub page-some : 0 < h.page
-  pub page-most : h.page ≤ 4096
-  pub pages-some : 0 < h.pages
-  pub pages-most : h.pages ≤ 256
-  pub blocks-most : h.blocks ≤ 4096
+  pub page_ok_lem : page_ok h.page ≡ true
+  pub page_some : 0 < h.page
+  pub page_most : h.page ≤ 4096
+  pub pages_some : 0 < h.pages
+  pub pages_most : h.pages ≤ 256
+  pub blocks_most : h.blocks ≤ 4096
   pub marked : length marks ≡ h.blocks
-  pub capacity-most : h.capacity ≤ 2 ^ 31
+  pub capacity_most : h.capacity ≤ 2 ^ 31
 
 -- and the buffer has room for the largest page
 pub record Sound (marks : List ℕ) (h : Shape) (buf : List ℕ) : Type 0 where

@@ -29,7 +29,7 @@ unfoldable pub geometry_ok : ℕ → ℕ → ℕ → Bool
 geometry_ok page pages blocks = page_ok page && (pages_ok pages && (leb 1 blocks && leb blocks 4096))
 
 -- the shift of a page size, of 64 bits: how many of its low bits are zero. For a power of two it is the exponent
--- (proofs/Powers.antt, `shift-page`)
+-- (proofs/Powers.antt, `shift_page`)
 abbrev pub shift_of : ℕ → ℕ
 shift_of page = count_trailing_zeros 64 page
 

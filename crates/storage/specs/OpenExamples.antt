@@ -13,14 +13,14 @@ use Rattle.storage.specs.Open.{one_of, page_ok, pages_ok, geometry_ok, nor_size,
 abbrev app : Lists
 app = lists (8192 ∷ []) (8192 ∷ []) (3 ∷ []) (ascii "app")
 
-pub replay-opens : opened_nor 32768 4096 app 0x40000000 4096 0 0 ≡ Ready (nor_store 32768 16384 0 0)
+pub replay_opens : opened_nor 32768 4096 app 0x40000000 4096 0 0 ≡ Ready (nor_store 32768 16384 0 0)
 unfolding opened_nor nor_size lists_ok parts parts_of total all part_ok table_end end_of scratch_ok is_utf8 octets char_len first_of utf8_char utf8_1 any_of begins
-replay-opens = refl
+replay_opens = refl
 
 -- a name is trimmed and ends at the first semicolon
-pub replay-finds : (lookup app (ascii " app ;x") ≡ At 8192) × (lookup app (ascii "ap") ≡ Nothing)
+pub replay_finds : (lookup app (ascii " app ;x") ≡ At 8192) × (lookup app (ascii "ap") ≡ Nothing)
 unfolding lookup lists_ok parts parts_of total all part_ok find wanted same until is_utf8 octets char_len first_of utf8_char utf8_1 utf8_2 utf8_3 utf8_4 any_of begins trim trim_start trim_end lead keep blank_len code_point white_space
-replay-finds = (refl, refl)
+replay_finds = (refl, refl)
 
 -- a short buffer before a wrong size; a wrong size before a scratch that is too high; wrong numbers before that
 pub refusals :

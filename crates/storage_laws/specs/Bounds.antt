@@ -12,7 +12,7 @@ use Rattle.storage.specs.Nand as NandOf
 use Rattle.storage.specs.Open.{by_kind, unit_of, in_bounds, parts_fit}
 use Rattle.storage.specs.Store.{good, by_good, flushing, erasing, writing, reading}
 use Rattle.storage.specs.Scratch.{plus, out_k, in_k, part, from_scratch, into_scratch}
-use Rattle.storage.proofs.Opens.{Sound, sound, bounds-kept, parts-kept}
+use Rattle.storage.proofs.Opens.{Sound, sound, bounds_kept, parts_kept}
 use Rattle.nand_laws.specs.Kept as NandKept
 use Rattle.storage_laws.specs.Kept as NorKept
 
@@ -31,17 +31,17 @@ module _ (l : Lent) (d : Dev) (g : good l d ≡ true) where
   unfolding good
   after e k c b f =
       let p = split (in_bounds d.store) (parts_fit d.store (length d.chip) (length l.marks) (length d.buf)) g in
-      rw (c, b, parts-kept d.store e.store k (length d.chip) (length l.marks) (length d.buf), bounds-kept d.store e.store k f p.0) p.1
+      rw (c, b, parts_kept d.store e.store k (length d.chip) (length l.marks) (length d.buf), bounds_kept d.store e.store k f p.0) p.1
 
-  nor-after : d.store.shape.kind ≡ Nor → (e : Dev) → NorKept.Kept d e → good l e ≡ true
-  nor-after q e k =
+  nor_after : d.store.shape.kind ≡ Nor → (e : Dev) → NorKept.Kept d e → good l e ≡ true
+  nor_after q e k =
       let u : unit_of d.store ≡ 4096 = ap (λ (x : Kind). by_kind x 4096 d.store.shape.page) q in
       let c : e.store.shape.capacity ≡ d.store.shape.capacity = ap (λ (x : Shape). x.capacity) k.shape in
       after e k.shape k.chip k.buf
       (λ h. let x = k.on (λ i. (ap (λ (n : ℕ). d.store.at % n) (sym u) ∙ facts.held_start i, facts.held_below i)) h in (ap (λ (n : ℕ). e.store.at % n) u ∙ x.0, omega (arith, x.1)))
 
-  nand-after : d.store.shape.kind ≡ Nand → (e : Dev) → NandKept.Kept d e → good l e ≡ true
-  nand-after q e k =
+  nand_after : d.store.shape.kind ≡ Nand → (e : Dev) → NandKept.Kept d e → good l e ≡ true
+  nand_after q e k =
       let u : unit_of d.store ≡ d.store.shape.page = ap (λ (x : Kind). by_kind x 4096 d.store.shape.page) q in
       let c : e.store.shape.capacity ≡ d.store.shape.capacity = ap (λ (x : Shape). x.capacity) k.shape in
       let p : e.store.shape.page ≡ d.store.shape.page = ap (λ (x : Shape). x.page) k.shape in
@@ -49,8 +49,8 @@ module _ (l : Lent) (d : Dev) (g : good l d ≡ true) where
       (λ h. let x = k.on (λ i. (ap (λ (n : ℕ). d.store.at % n) (sym u) ∙ facts.held_start i, facts.held_below i)) h in (ap (λ (n : ℕ). e.store.at % n) (u ∙ sym p) ∙ x.0, omega (arith, x.1)))
 
   -- a page has room in the buffer
-  pub page-fits : d.store.shape.kind ≡ Nand → d.store.shape.page ≤ length d.buf
-  page-fits q = omega (arith, (facts.nand q).numbers.page-high, facts.room)
+  pub page_fits : d.store.shape.kind ≡ Nand → d.store.shape.page ≤ length d.buf
+  page_fits q = omega (arith, (facts.nand q).numbers.page_high, facts.room)
 
   -- ---- the calls of a kind, one by one
 
@@ -64,39 +64,39 @@ module _ (l : Lent) (d : Dev) (g : good l d ≡ true) where
       go Nand q = b q
 
   -- a flush leaves a record in bounds, with parts that fit it
-  pub flushing-good : good l (flushing l d).dev ≡ true
+  pub flushing_good : good l (flushing l d).dev ≡ true
   unfolding flushing
-  flushing-good =
-      chosen (λ (t : Told). good l t.dev ≡ true) _ _ _ (λ q. nor-after q (NorOf.flushes l.faults d).dev (NorKept.flushes-kept l.faults d))
-      (λ q. nand-after q (NandOf.flushed l d).dev (NandKept.flushed-kept l d))
+  flushing_good =
+      chosen (λ (t : Told). good l t.dev ≡ true) _ _ _ (λ q. nor_after q (NorOf.flushes l.faults d).dev (NorKept.flushes_kept l.faults d))
+      (λ q. nand_after q (NandOf.flushed l d).dev (NandKept.flushed_kept l d))
 
   -- so does an erase
-  pub erasing-good : (start size : ℕ) → good l (erasing l start size d).dev ≡ true
+  pub erasing_good : (start size : ℕ) → good l (erasing l start size d).dev ≡ true
   unfolding erasing
-  erasing-good start size =
-      chosen (λ (t : Told). good l t.dev ≡ true) _ _ _ (λ q. nor-after q (NorOf.erased l.faults start size d).dev (NorKept.erased-kept l.faults start size d))
-      (λ q. nand-after q (NandOf.erased l start size d).dev (NandKept.erased-kept l d start size))
+  erasing_good start size =
+      chosen (λ (t : Told). good l t.dev ≡ true) _ _ _ (λ q. nor_after q (NorOf.erased l.faults start size d).dev (NorKept.erased_kept l.faults start size d))
+      (λ q. nand_after q (NandOf.erased l start size d).dev (NandKept.erased_kept l d start size))
 
   -- so does a write
-  pub writing-good : (off : ℕ) (xs : List ℕ) → good l (writing l off xs d).dev ≡ true
+  pub writing_good : (off : ℕ) (xs : List ℕ) → good l (writing l off xs d).dev ≡ true
   unfolding writing
-  writing-good off xs =
-      chosen (λ (t : Told). good l t.dev ≡ true) _ _ _ (λ q. nor-after q (NorOf.written l.faults off xs d).dev (NorKept.written-kept l.faults off xs d))
-      (λ q. nand-after q (NandOf.written l off xs d).dev (NandKept.written-kept l d (page-fits q) off xs))
+  writing_good off xs =
+      chosen (λ (t : Told). good l t.dev ≡ true) _ _ _ (λ q. nor_after q (NorOf.written l.faults off xs d).dev (NorKept.written_kept l.faults off xs d))
+      (λ q. nand_after q (NandOf.written l off xs d).dev (NandKept.written_kept l d (page_fits q) off xs))
 
   -- so does a read
-  pub reading-good : (off : ℕ) (room : List ℕ) → good l (reading l off room d).told.dev ≡ true
+  pub reading_good : (off : ℕ) (room : List ℕ) → good l (reading l off room d).told.dev ≡ true
   unfolding reading
-  reading-good off room =
-      chosen (λ (s : Seen). good l s.told.dev ≡ true) _ _ _ (λ q. nor-after q (NorOf.read_out l.faults off room d).told.dev (NorKept.read_out-kept l.faults off room d))
-      (λ q. nand-after q (NandOf.read_out l off room d).told.dev (NandKept.read_out-kept l d off room))
+  reading_good off room =
+      chosen (λ (s : Seen). good l s.told.dev ≡ true) _ _ _ (λ q. nor_after q (NorOf.read_out l.faults off room d).told.dev (NorKept.read_out_kept l.faults off room d))
+      (λ q. nand_after q (NandOf.read_out l off room d).told.dev (NandKept.read_out_kept l d off room))
 
   -- a write keeps what an opening fixed
-  pub writing-shape : (off : ℕ) (xs : List ℕ) → (writing l off xs d).dev.store.shape ≡ d.store.shape
+  pub writing_shape : (off : ℕ) (xs : List ℕ) → (writing l off xs d).dev.store.shape ≡ d.store.shape
   unfolding writing
-  writing-shape off xs =
-      chosen (λ (t : Told). t.dev.store.shape ≡ d.store.shape) _ _ _ (λ q. (NorKept.written-kept l.faults off xs d).shape)
-      (λ q. (NandKept.written-kept l d (page-fits q) off xs).shape)
+  writing_shape off xs =
+      chosen (λ (t : Told). t.dev.store.shape ≡ d.store.shape) _ _ _ (λ q. (NorKept.written_kept l.faults off xs d).shape)
+      (λ q. (NandKept.written_kept l d (page_fits q) off xs).shape)
 
 -- ---- moves of scratch
 
@@ -106,119 +106,119 @@ either P true x y p q = p
 either P false x y p q = q
 
 -- pieces out of scratch leave such a record
-pub out-good : (k : ℕ) (l : Lent) (off : ℕ) (xs : List ℕ) (d : Dev) → good l d ≡ true → good l (out_k k l off xs d).dev ≡ true
+pub out_good : (k : ℕ) (l : Lent) (off : ℕ) (xs : List ℕ) (d : Dev) → good l d ≡ true → good l (out_k k l off xs d).dev ≡ true
 unfolding out_k
-out-good zero l off xs d g = g
-out-good (suc k) l off xs d g =
+out_good zero l off xs d g = g
+out_good (suc k) l off xs d g =
     let t = writing l off (take 256 xs) d in
-    let h = writing-good l d g off (take 256 xs) in
+    let h = writing_good l d g off (take 256 xs) in
     either (λ (u : Told). good l u.dev ≡ true) (eqb t.count (length (take 256 xs)))
     (plus t.count (out_k k l (sat_add off t.count) (drop 256 xs) t.dev)) (told 0 t.count t.dev)
-    (out-good k l (sat_add off t.count) (drop 256 xs) t.dev h) h
+    (out_good k l (sat_add off t.count) (drop 256 xs) t.dev h) h
 
 -- pieces into scratch do
-pub in-good : (k : ℕ) (l : Lent) (off : ℕ) (room : List ℕ) (d : Dev) → good l d ≡ true → good l (in_k k l off room d).told.dev ≡ true
+pub in_good : (k : ℕ) (l : Lent) (off : ℕ) (room : List ℕ) (d : Dev) → good l d ≡ true → good l (in_k k l off room d).told.dev ≡ true
 unfolding in_k
-in-good zero l off room d g = g
-in-good (suc k) l off room d g =
+in_good zero l off room d g = g
+in_good (suc k) l off room d g =
     let s = reading l off (take 256 room) d in
     let t = s.told in
-    let h = reading-good l d g off (take 256 room) in
+    let h = reading_good l d g off (take 256 room) in
     let r = in_k k l (sat_add off t.count) (drop 256 room) t.dev in
     either (λ (u : Seen). good l u.told.dev ≡ true) (eqb t.count (length (take 256 room)))
     (seen (plus t.count r.told) (s.room ++ r.room)) (seen (told 0 t.count t.dev) (s.room ++ drop 256 room))
-    (in-good k l (sat_add off t.count) (drop 256 room) t.dev h) h
+    (in_good k l (sat_add off t.count) (drop 256 room) t.dev h) h
 
 module _ (l : Lent) (d : Dev) (g : good l d ≡ true) (off at n : ℕ) (scratch : List ℕ) where
   -- a move out of scratch leaves such a record
-  pub from-good : good l (from_scratch l off at n scratch d).dev ≡ true
+  pub from_good : good l (from_scratch l off at n scratch d).dev ≡ true
   unfolding from_scratch
-  from-good =
+  from_good =
       either (λ (t : Told). good l t.dev ≡ true) (good l d) (out_k (pages_of 256 (length (part scratch at n))) l off (part scratch at n) d) (told 9 0 d)
-      (out-good (pages_of 256 (length (part scratch at n))) l off (part scratch at n) d g) g
+      (out_good (pages_of 256 (length (part scratch at n))) l off (part scratch at n) d g) g
 
   -- so does a move into scratch
-  pub into-good : good l (into_scratch l off at n scratch d).told.dev ≡ true
+  pub into_good : good l (into_scratch l off at n scratch d).told.dev ≡ true
   unfolding into_scratch
-  into-good = rw g (in-good (pages_of 256 (length (part scratch at n))) l off (part scratch at n) d g)
+  into_good = rw g (in_good (pages_of 256 (length (part scratch at n))) l off (part scratch at n) d g)
 
 -- ---- no call answers 9
 
-status-small : (b : Bool) → status_of b ≡ 9 → ⊥
-status-small true e = omega arith
-status-small false e = omega arith
+status_small : (b : Bool) → status_of b ≡ 9 → ⊥
+status_small true e = omega arith
+status_small false e = omega arith
 
 abbrev Zero : Told → Type 0
 Zero t = t.status ≡ 0
 
-nor-write-status : (F : List ℕ) (off : ℕ) (xs : List ℕ) (d : Dev) → Zero (NorOf.written F off xs d)
+nor_write_status : (F : List ℕ) (off : ℕ) (xs : List ℕ) (d : Dev) → Zero (NorOf.written F off xs d)
 unfolding NorOf.written
-nor-write-status F off xs d = either Zero (leb (off + length xs) d.store.shape.capacity) _ _ refl refl
+nor_write_status F off xs d = either Zero (leb (off + length xs) d.store.shape.capacity) _ _ refl refl
 
-nand-write-status : (l : Lent) (off : ℕ) (xs : List ℕ) (d : Dev) → Zero (NandOf.written l off xs d)
+nand_write_status : (l : Lent) (off : ℕ) (xs : List ℕ) (d : Dev) → Zero (NandOf.written l off xs d)
 unfolding NandOf.written
-nand-write-status l off xs d = either Zero (leb (off + length xs) d.store.shape.capacity) _ _ refl refl
+nand_write_status l off xs d = either Zero (leb (off + length xs) d.store.shape.capacity) _ _ refl refl
 
 -- what a read tells after its flush
-read-status : (b c : Bool) (n : ℕ) (e f : Dev) (r s : List ℕ) → Zero (cond b (cond c (seen (told 0 0 e) r) (seen (told 0 n f) s)) (seen (told 0 0 e) r)).told
-read-status true true n e f r s = refl
-read-status true false n e f r s = refl
-read-status false c n e f r s = refl
+read_status : (b c : Bool) (n : ℕ) (e f : Dev) (r s : List ℕ) → Zero (cond b (cond c (seen (told 0 0 e) r) (seen (told 0 n f) s)) (seen (told 0 0 e) r)).told
+read_status true true n e f r s = refl
+read_status true false n e f r s = refl
+read_status false c n e f r s = refl
 
-nor-read-status : (F : List ℕ) (off : ℕ) (room : List ℕ) (d : Dev) → Zero (NorOf.read_out F off room d).told
+nor_read_status : (F : List ℕ) (off : ℕ) (room : List ℕ) (d : Dev) → Zero (NorOf.read_out F off room d).told
 unfolding NorOf.read_out
-nor-read-status F off room d =
+nor_read_status F off room d =
     let f = NorOf.flushes F d in
     let n = min (length room) (f.dev.store.shape.capacity - off) in
-    read-status f.ok (eqb n 0) _ f.dev _ room _
+    read_status f.ok (eqb n 0) _ f.dev _ room _
 
-nand-read-status : (l : Lent) (off : ℕ) (room : List ℕ) (d : Dev) → Zero (NandOf.read_out l off room d).told
+nand_read_status : (l : Lent) (off : ℕ) (room : List ℕ) (d : Dev) → Zero (NandOf.read_out l off room d).told
 unfolding NandOf.read_out
-nand-read-status l off room d =
+nand_read_status l off room d =
     let f = NandOf.flushes l d in
     let n = min (length room) (f.dev.store.shape.capacity - off) in
-    read-status f.ok (eqb n 0) _ f.dev _ room _
+    read_status f.ok (eqb n 0) _ f.dev _ room _
 
-out-status : (k : ℕ) (l : Lent) (off : ℕ) (xs : List ℕ) (d : Dev) → Zero (out_k k l off xs d)
+out_status : (k : ℕ) (l : Lent) (off : ℕ) (xs : List ℕ) (d : Dev) → Zero (out_k k l off xs d)
 unfolding out_k
-out-status zero l off xs d = refl
-out-status (suc k) l off xs d = either Zero (eqb (writing l off (take 256 xs) d).count (length (take 256 xs))) _ _ refl refl
+out_status zero l off xs d = refl
+out_status (suc k) l off xs d = either Zero (eqb (writing l off (take 256 xs) d).count (length (take 256 xs))) _ _ refl refl
 
-in-status : (k : ℕ) (l : Lent) (off : ℕ) (room : List ℕ) (d : Dev) → Zero (in_k k l off room d).told
+in_status : (k : ℕ) (l : Lent) (off : ℕ) (room : List ℕ) (d : Dev) → Zero (in_k k l off room d).told
 unfolding in_k
-in-status zero l off room d = refl
-in-status (suc k) l off room d = either (λ (s : Seen). Zero s.told) (eqb (reading l off (take 256 room) d).told.count (length (take 256 room))) _ _ refl refl
+in_status zero l off room d = refl
+in_status (suc k) l off room d = either (λ (s : Seen). Zero s.told) (eqb (reading l off (take 256 room) d).told.count (length (take 256 room))) _ _ refl refl
 
 module _ (l : Lent) (d : Dev) (g : good l d ≡ true) where
   -- a flush is not refused
-  pub flushing-told : (flushing l d).status ≡ 9 → ⊥
+  pub flushing_told : (flushing l d).status ≡ 9 → ⊥
   unfolding flushing
-  flushing-told =
-      chosen l d g (λ (t : Told). t.status ≡ 9 → ⊥) _ _ _ (λ q. status-small (NorOf.flushes l.faults d).ok) (λ q. status-small (NandOf.flushed l d).ok)
+  flushing_told =
+      chosen l d g (λ (t : Told). t.status ≡ 9 → ⊥) _ _ _ (λ q. status_small (NorOf.flushes l.faults d).ok) (λ q. status_small (NandOf.flushed l d).ok)
 
   -- nor an erase
-  pub erasing-told : (start size : ℕ) → (erasing l start size d).status ≡ 9 → ⊥
+  pub erasing_told : (start size : ℕ) → (erasing l start size d).status ≡ 9 → ⊥
   unfolding erasing
-  erasing-told start size =
-      chosen l d g (λ (t : Told). t.status ≡ 9 → ⊥) _ _ _ (λ q. status-small (NorOf.erased l.faults start size d).ok)
-      (λ q. status-small (NandOf.erased l start size d).ok)
+  erasing_told start size =
+      chosen l d g (λ (t : Told). t.status ≡ 9 → ⊥) _ _ _ (λ q. status_small (NorOf.erased l.faults start size d).ok)
+      (λ q. status_small (NandOf.erased l start size d).ok)
 
   -- a write answers 0, and its count says what it did
-  pub writing-told : (off : ℕ) (xs : List ℕ) → (writing l off xs d).status ≡ 0
+  pub writing_told : (off : ℕ) (xs : List ℕ) → (writing l off xs d).status ≡ 0
   unfolding writing
-  writing-told off xs = chosen l d g Zero _ _ _ (λ q. nor-write-status l.faults off xs d) (λ q. nand-write-status l off xs d)
+  writing_told off xs = chosen l d g Zero _ _ _ (λ q. nor_write_status l.faults off xs d) (λ q. nand_write_status l off xs d)
 
   -- so does a read
-  pub reading-told : (off : ℕ) (room : List ℕ) → (reading l off room d).told.status ≡ 0
+  pub reading_told : (off : ℕ) (room : List ℕ) → (reading l off room d).told.status ≡ 0
   unfolding reading
-  reading-told off room = chosen l d g (λ (s : Seen). Zero s.told) _ _ _ (λ q. nor-read-status l.faults off room d) (λ q. nand-read-status l off room d)
+  reading_told off room = chosen l d g (λ (s : Seen). Zero s.told) _ _ _ (λ q. nor_read_status l.faults off room d) (λ q. nand_read_status l off room d)
 
   -- so does a move out of scratch
   pub from_told : (off at n : ℕ) (scratch : List ℕ) → (from_scratch l off at n scratch d).status ≡ 0
   unfolding from_scratch
-  from_told off at n scratch = rw g (out-status (pages_of 256 (length (part scratch at n))) l off (part scratch at n) d)
+  from_told off at n scratch = rw g (out_status (pages_of 256 (length (part scratch at n))) l off (part scratch at n) d)
 
   -- so does a move into scratch
-  pub into-told : (off at n : ℕ) (scratch : List ℕ) → (into_scratch l off at n scratch d).told.status ≡ 0
+  pub into_told : (off at n : ℕ) (scratch : List ℕ) → (into_scratch l off at n scratch d).told.status ≡ 0
   unfolding into_scratch
-  into-told off at n scratch = rw g (in-status (pages_of 256 (length (part scratch at n))) l off (part scratch at n) d)
+  into_told off at n scratch = rw g (in_status (pages_of 256 (length (part scratch at n))) l off (part scratch at n) d)

@@ -5,9 +5,9 @@ use Rattle.std.proofs.Common.{sym, ap, ◌∙◌, inl, inr, ⊎_elim, le_refl, l
 use Rattle.storage.specs.declared.types.Store.{Store}
 use Rattle.storage.specs.World.{Dev, dev, Out, out}
 use Rattle.storage.specs.Chip.{failing, able, next_call, called}
-use Rattle.storage.proofs.Fold.{false-true}
-use Rattle.nand_laws.specs.Made.{Made, Failed, failed-wide}
-use Rattle.storage_laws.specs.Counted.{made-on}
+use Rattle.storage.proofs.Fold.{false_true}
+use Rattle.nand_laws.specs.Made.{Made, Failed, failed_wide}
+use Rattle.storage_laws.specs.Counted.{made_on}
 
 -- ---- none is told to fail
 
@@ -21,16 +21,16 @@ unfolding failing
 quiet_none n k h = refl
 
 -- nor from a later number on
-pub quiet-later : (F : List ℕ) (m n : ℕ) → m ≤ n → QuietFrom F m → QuietFrom F n
-quiet-later F m n h q k l = q k (le_trans h l)
+pub quiet_later : (F : List ℕ) (m n : ℕ) → m ≤ n → QuietFrom F m → QuietFrom F n
+quiet_later F m n h q k l = q k (le_trans h l)
 
 -- so after any chip calls
-pub quiet-made : (F : List ℕ) {d e : Dev} {n : ℕ} → d.store.calls ≤ 18446744073709551615 → Made d n e → QuietFrom F d.store.calls → QuietFrom F e.store.calls
-quiet-made F h m = quiet-later F _ _ (made-on h m).0
+pub quiet_made : (F : List ℕ) {d e : Dev} {n : ℕ} → d.store.calls ≤ 18446744073709551615 → Made d n e → QuietFrom F d.store.calls → QuietFrom F e.store.calls
+quiet_made F h m = quiet_later F _ _ (made_on h m).0
 
 -- and none is met from a state with that number on
 pub unmet : {A : Type 0} {F : List ℕ} {d e : Dev} → QuietFrom F d.store.calls → A ⊎ Failed F d e → A
-unmet q = ⊎_elim (λ a. a) (λ x. false-true (sym (q x.number x.after) ∙ x.fails))
+unmet q = ⊎_elim (λ a. a) (λ x. false_true (sym (q x.number x.after) ∙ x.fails))
 
 -- ---- one is told to fail
 
@@ -40,8 +40,8 @@ pub record Stopped (F : List ℕ) (d : Dev) (ok : Bool) (e : Dev) : Type 0 where
   pub met : Failed F d e
 
 -- and so from a state before
-pub stopped-wide : {F : List ℕ} {c d e : Dev} {ok : Bool} → c.store.calls ≤ d.store.calls → Stopped F d ok e → Stopped F c ok e
-stopped-wide h x = record { fails = x.fails; met = failed-wide h (le_refl _) x.met }
+pub stopped_wide : {F : List ℕ} {c d e : Dev} {ok : Bool} → c.store.calls ≤ d.store.calls → Stopped F d ok e → Stopped F c ok e
+stopped_wide h x = record { fails = x.fails; met = failed_wide h (le_refl _) x.met }
 
 -- what a chip call from the record s left that is told to fail
 pub meets : {F : List ℕ} {d e : Dev} (s : Store) → d.store.calls ≤ s.calls → failing F s.calls ≡ true → e.store ≡ called s → Failed F d e
@@ -55,9 +55,9 @@ pub stop : {F : List ℕ} {d : Dev} {o : Out} (s : Store) {c b : List ℕ} → d
 stop s h t q = record { fails = ap (λ (r : Out). r.ok) (sym q); met = meets s h t (ap (λ (r : Out). r.dev.store) (sym q)) }
 
 -- a chip call that is told to fail does not succeed
-pub able-told : (F : List ℕ) (s : Store) (chip : List ℕ) (a n : ℕ) → failing F s.calls ≡ true → able F s chip a n ≡ false
+pub able_told : (F : List ℕ) (s : Store) (chip : List ℕ) (a n : ℕ) → failing F s.calls ≡ true → able F s chip a n ≡ false
 unfolding able
-able-told F s chip a n t = rw t (go (leb (a + n) (length chip)))
+able_told F s chip a n t = rw t (go (leb (a + n) (length chip)))
   where
     go : (b : Bool) → cond b false false ≡ false
     go true = refl

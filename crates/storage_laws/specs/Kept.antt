@@ -8,9 +8,9 @@ use Rattle.storage.specs.World.{Dev}
 use Rattle.storage.specs.Chip.{next_call}
 use Rattle.storage.specs.Fold.{run, writes}
 use Rattle.storage.specs.Nor.{flushes, loads, closes, written, erased, read_out}
-use Rattle.storage.proofs.Fold.{false-true}
+use Rattle.storage.proofs.Fold.{false_true}
 use Rattle.storage.proofs.Programs.{Call}
-use Rattle.storage_laws.specs.Steps.{Steps, flushes-along, folds-along, written-along, erased-along, read_out-along}
+use Rattle.storage_laws.specs.Steps.{Steps, flushes_along, folds_along, written_along, erased_along, read_out_along}
 
 -- a held sector starts on its boundary, below the capacity
 abbrev pub OnSector : Store → Type 0
@@ -31,8 +31,8 @@ module _ (d : Dev) where
   kept_refl = record { shape = refl; erased = refl; chip = refl; buf = refl; calls = λ h. (omega arith, h); on = λ h. h }
 
   -- one more chip call keeps them
-  called-kept : (e f : Dev) → Call e f → Kept d e → Kept d f
-  called-kept e f c k =
+  called_kept : (e f : Dev) → Call e f → Kept d e → Kept d f
+  called_kept e f c k =
       let n : f.store.calls ≡ next_call e.store.calls = ap (λ (s : Store). s.calls) c.number in
       record {
         shape = ap (λ (s : Store). s.shape) c.number ∙ k.shape;
@@ -44,11 +44,11 @@ module _ (d : Dev) where
       }
 
   -- and so does every step
-  kept-steps : Steps (λ (e : Dev). Kept d e) d.store.shape.capacity
-  kept-steps =
+  kept_steps : Steps (λ (e : Dev). Kept d e) d.store.shape.capacity
+  kept_steps =
       record {
-        called = called-kept;
-        freed = λ e k. record { shape = k.shape; erased = k.erased; chip = k.chip; buf = k.buf; calls = k.calls; on = λ h t. false-true t };
+        called = called_kept;
+        freed = λ e k. record { shape = k.shape; erased = k.erased; chip = k.chip; buf = k.buf; calls = k.calls; on = λ h t. false_true t };
         holding = λ a e z l i k.
             let q : e.store.shape.capacity ≡ d.store.shape.capacity = ap (λ (s : Shape). s.capacity) k.shape in
             record { shape = k.shape; erased = k.erased; chip = k.chip; buf = k.buf; calls = k.calls; on = λ h t. (z, omega arith) };
@@ -57,21 +57,21 @@ module _ (d : Dev) where
 
 module _ (F : List ℕ) where
   -- a flush keeps them
-  pub flushes-kept : (d : Dev) → Kept d (flushes F d).dev
-  flushes-kept d = flushes-along F _ _ (kept-steps d) d (kept_refl d)
+  pub flushes_kept : (d : Dev) → Kept d (flushes F d).dev
+  flushes_kept d = flushes_along F _ _ (kept_steps d) d (kept_refl d)
 
   -- so does the fold of a write below the capacity
   pub writes_kept : (xs : List ℕ) (a : ℕ) (d : Dev) → a + length xs ≤ d.store.shape.capacity → Kept d (writes 4096 (loads F) (closes F) xs (run true a d)).dev
-  writes_kept xs a d h = folds-along F _ _ (kept-steps d) xs a d h (kept_refl d)
+  writes_kept xs a d h = folds_along F _ _ (kept_steps d) xs a d h (kept_refl d)
 
   -- so does a write
-  pub written-kept : (off : ℕ) (xs : List ℕ) (d : Dev) → Kept d (written F off xs d).dev
-  written-kept off xs d = written-along F _ _ (kept-steps d) off xs d (le_refl _) (kept_refl d)
+  pub written_kept : (off : ℕ) (xs : List ℕ) (d : Dev) → Kept d (written F off xs d).dev
+  written_kept off xs d = written_along F _ _ (kept_steps d) off xs d (le_refl _) (kept_refl d)
 
   -- so does an erase
-  pub erased-kept : (start size : ℕ) (d : Dev) → Kept d (erased F start size d).dev
-  erased-kept start size d = erased-along F _ _ (kept-steps d) start size d (kept_refl d)
+  pub erased_kept : (start size : ℕ) (d : Dev) → Kept d (erased F start size d).dev
+  erased_kept start size d = erased_along F _ _ (kept_steps d) start size d (kept_refl d)
 
   -- so does a read
-  pub read_out-kept : (off : ℕ) (room : List ℕ) (d : Dev) → Kept d (read_out F off room d).told.dev
-  read_out-kept off room d = read_out-along F _ _ (kept-steps d) off room d (kept_refl d)
+  pub read_out_kept : (off : ℕ) (room : List ℕ) (d : Dev) → Kept d (read_out F off room d).told.dev
+  read_out_kept off room d = read_out_along F _ _ (kept_steps d) off room d (kept_refl d)

@@ -14,11 +14,11 @@ use Rattle.storage.specs.World.{Dev, dev, Out, out, and_then, told, seen}
 use Rattle.storage.specs.Chip.{able, called, got, fetched}
 use Rattle.storage.specs.Fold.{run, base, writes}
 use Rattle.storage.specs.Nor.{erase_sector, write_bytes, freed, holding, holds, flushes, reads, loads, closes, written, erase_n, pages_of, sat_add, erased, read_out}
-use Rattle.storage.proofs.Chips.{able-fits}
-use Rattle.storage.proofs.Programs.{Call, fetched-number, fetched-length}
-use Rattle.storage.proofs.Sectors.{erase_call, write-call}
-use Rattle.storage.proofs.Fold.{false-true}
-use Rattle.storage.proofs.Along.{writes-along}
+use Rattle.storage.proofs.Chips.{able_fits}
+use Rattle.storage.proofs.Programs.{Call, fetched_number, fetched_length}
+use Rattle.storage.proofs.Sectors.{erase_call, write_call}
+use Rattle.storage.proofs.Fold.{false_true}
+use Rattle.storage.proofs.Along.{writes_along}
 
 -- P is kept by each step, where sectors are held below the address `top`, and each after it was read from within the chip
 pub record Steps (P : Dev → Type 0) (top : ℕ) : Type 0 where
@@ -29,44 +29,44 @@ pub record Steps (P : Dev → Type 0) (top : ℕ) : Type 0 where
 
 -- ---- one step after another
 
-then-went : (P : Dev → Type 0) (o : Out) (f : Dev → Out) → P o.dev → (o.ok ≡ true → P (f o.dev).dev) → P (and_then o f).dev
-then-went P o f k g = go o.ok refl
+then_went : (P : Dev → Type 0) (o : Out) (f : Dev → Out) → P o.dev → (o.ok ≡ true → P (f o.dev).dev) → P (and_then o f).dev
+then_went P o f k g = go o.ok refl
   where
     go : (b : Bool) → o.ok ≡ b → P (cond b (f o.dev) o).dev
     go true t = g t
     go false t = k
 
-then-along : (P : Dev → Type 0) (o : Out) (f : Dev → Out) → P o.dev → ((e : Dev) → P e → P (f e).dev) → P (and_then o f).dev
-then-along P o f k g = then-went P o f k (λ t. g o.dev k)
+then_along : (P : Dev → Type 0) (o : Out) (f : Dev → Out) → P o.dev → ((e : Dev) → P e → P (f e).dev) → P (and_then o f).dev
+then_along P o f k g = then_went P o f k (λ t. g o.dev k)
 
-either-along : (P : Dev → Type 0) (b : Bool) (o p : Out) → P o.dev → P p.dev → P (cond b o p).dev
-either-along P true o p h k = h
-either-along P false o p h k = k
+either_along : (P : Dev → Type 0) (b : Bool) (o p : Out) → P o.dev → P p.dev → P (cond b o p).dev
+either_along P true o p h k = h
+either_along P false o p h k = k
 
 -- a chip read is a chip call that leaves chip and buffer
-fetch-call : (F : List ℕ) (a : ℕ) (room : List ℕ) (d : Dev) → Call d (dev (fetched F a d.store d.chip room).store d.chip d.buf)
-fetch-call F a room d = record { number = fetched-number F a d.store d.chip room; buf = refl; size = refl }
+fetch_call : (F : List ℕ) (a : ℕ) (room : List ℕ) (d : Dev) → Call d (dev (fetched F a d.store d.chip room).store d.chip d.buf)
+fetch_call F a room d = record { number = fetched_number F a d.store d.chip room; buf = refl; size = refl }
 
 -- one that succeeds is within the chip
-fetch-fits : (F : List ℕ) (a : ℕ) (room : List ℕ) (d : Dev) → (fetched F a d.store d.chip room).ok ≡ true → a + length room ≤ length d.chip
+fetch_fits : (F : List ℕ) (a : ℕ) (room : List ℕ) (d : Dev) → (fetched F a d.store d.chip room).ok ≡ true → a + length room ≤ length d.chip
 unfolding fetched
-fetch-fits F a room d = go (able F d.store d.chip a (length room)) refl
+fetch_fits F a room d = go (able F d.store d.chip a (length room)) refl
   where
     go : (b : Bool) → able F d.store d.chip a (length room) ≡ b
         → (cond b (got true (called d.store) (take (length room) (drop a d.chip))) (got false (called d.store) room)).ok ≡ true → a + length room ≤ length d.chip
-    go true q t = able-fits F d.store d.chip a (length room) q
-    go false q t = false-true t
+    go true q t = able_fits F d.store d.chip a (length room) q
+    go false q t = false_true t
 
 module _ (F : List ℕ) (P : Dev → Type 0) (top : ℕ) (steps : Steps P top) where
   -- ---- flush
 
   -- a flush keeps P
-  pub flushes-along : (d : Dev) → P d → P (flushes F d).dev
+  pub flushes_along : (d : Dev) → P d → P (flushes F d).dev
   unfolding flushes
-  flushes-along d h =
-      either-along P d.store.held (and_then (erase_sector F a d) W) (out true d)
-      (then-along P (erase_sector F a d) W (steps.called d _ (erase_call F a d) h)
-      (λ e k. then-along P (write_bytes F a xs e) E (steps.called e _ (write-call F a xs e) k) (λ w m. steps.freed w m)))
+  flushes_along d h =
+      either_along P d.store.held (and_then (erase_sector F a d) W) (out true d)
+      (then_along P (erase_sector F a d) W (steps.called d _ (erase_call F a d) h)
+      (λ e k. then_along P (write_bytes F a xs e) E (steps.called e _ (write_call F a xs e) k) (λ w m. steps.freed w m)))
       h
     where
       a : ℕ
@@ -83,13 +83,13 @@ module _ (F : List ℕ) (P : Dev → Type 0) (top : ℕ) (steps : Steps P top) w
 
   -- ---- write
 
-  reads-along : (a : ℕ) (d : Dev) → P d → P (reads F a d).dev
+  reads_along : (a : ℕ) (d : Dev) → P d → P (reads F a d).dev
   unfolding reads
-  reads-along a d h =
+  reads_along a d h =
       let g = fetched F a d.store d.chip (take 4096 d.buf) in
       steps.buffer (g.room ++ drop 4096 d.buf) (dev g.store d.chip d.buf)
-      (length_front d.buf g.room 4096 (fetched-length F a d.store d.chip (take 4096 d.buf)))
-      (steps.called d _ (fetch-call F a (take 4096 d.buf) d) h)
+      (length_front d.buf g.room 4096 (fetched_length F a d.store d.chip (take 4096 d.buf)))
+      (steps.called d _ (fetch_call F a (take 4096 d.buf) d) h)
 
   reads_fit : (a : ℕ) (d : Dev) → (reads F a d).ok ≡ true → (let r = (reads F a d).dev in a + min 4096 (length r.buf) ≤ length r.chip)
   unfolding reads
@@ -97,17 +97,17 @@ module _ (F : List ℕ) (P : Dev → Type 0) (top : ℕ) (steps : Steps P top) w
       let room = take 4096 d.buf in
       let g = fetched F a d.store d.chip room in
       let l : length room ≡ min 4096 (length d.buf) = length-take 4096 d.buf in
-      let m : length (g.room ++ drop 4096 d.buf) ≡ length d.buf = length_front d.buf g.room 4096 (fetched-length F a d.store d.chip room) in
-      let h = fetch-fits F a room d t in
+      let m : length (g.room ++ drop 4096 d.buf) ≡ length d.buf = length_front d.buf g.room 4096 (fetched_length F a d.store d.chip room) in
+      let h = fetch_fits F a room d t in
       omega arith
 
-  loads-along : (a : ℕ) (d : Dev) → a < top → P d → P (loads F a d).dev
+  loads_along : (a : ℕ) (d : Dev) → a < top → P d → P (loads F a d).dev
   unfolding loads
-  loads-along a d l h =
-      either-along P (holds d.store (base 4096 a)) (out true d) (and_then (flushes F d) S) h
-      (then-along P (flushes F d) S (flushes-along d h)
-      (λ f k. let m = reads-along (base 4096 a) f k in
-      then-went P (reads F (base 4096 a) f) R m (λ t. steps.holding (base 4096 a) _ (omega arith) (omega arith) (reads_fit (base 4096 a) f t) m)))
+  loads_along a d l h =
+      either_along P (holds d.store (base 4096 a)) (out true d) (and_then (flushes F d) S) h
+      (then_along P (flushes F d) S (flushes_along d h)
+      (λ f k. let m = reads_along (base 4096 a) f k in
+      then_went P (reads F (base 4096 a) f) R m (λ t. steps.holding (base 4096 a) _ (omega arith) (omega arith) (reads_fit (base 4096 a) f t) m)))
     where
       R : Dev → Out
       R r = out true (dev (holding (base 4096 a) r.store) r.chip r.buf)
@@ -115,38 +115,38 @@ module _ (F : List ℕ) (P : Dev → Type 0) (top : ℕ) (steps : Steps P top) w
       S : Dev → Out
       S f = and_then (reads F (base 4096 a) f) R
 
-  closes-along : (a : ℕ) (d : Dev) → P d → P (closes F a d).dev
+  closes_along : (a : ℕ) (d : Dev) → P d → P (closes F a d).dev
   unfolding closes
-  closes-along a d h = either-along P (eqb (a % 4096) 0) (flushes F d) (out true d) (flushes-along d h) h
+  closes_along a d h = either_along P (eqb (a % 4096) 0) (flushes F d) (out true d) (flushes_along d h) h
 
   -- so does the fold of a write below `top`
-  pub folds-along : (xs : List ℕ) (a : ℕ) (d : Dev) → a + length xs ≤ top → P d → P (writes 4096 (loads F) (closes F) xs (run true a d)).dev
-  folds-along xs a d =
-      writes-along 4096 (loads F) (closes F) P top loads-along closes-along (λ i x e. steps.buffer _ e (length-set e.buf i x)) xs (run true a d)
+  pub folds_along : (xs : List ℕ) (a : ℕ) (d : Dev) → a + length xs ≤ top → P d → P (writes 4096 (loads F) (closes F) xs (run true a d)).dev
+  folds_along xs a d =
+      writes_along 4096 (loads F) (closes F) P top loads_along closes_along (λ i x e. steps.buffer _ e (length-set e.buf i x)) xs (run true a d)
 
   -- so does a write
-  pub written-along : (off : ℕ) (xs : List ℕ) (d : Dev) → d.store.shape.capacity ≤ top → P d → P (written F off xs d).dev
+  pub written_along : (off : ℕ) (xs : List ℕ) (d : Dev) → d.store.shape.capacity ≤ top → P d → P (written F off xs d).dev
   unfolding written
-  written-along off xs d t h = go (leb (off + length xs) d.store.shape.capacity) refl
+  written_along off xs d t h = go (leb (off + length xs) d.store.shape.capacity) refl
     where
       go : (b : Bool) → leb (off + length xs) d.store.shape.capacity ≡ b
           → P (cond b (told 0 ((writes 4096 (loads F) (closes F) xs (run true off d)).at - off) (writes 4096 (loads F) (closes F) xs (run true off d)).dev) (told 0 0 d)).dev
-      go true q = let l : off + length xs ≤ d.store.shape.capacity = leb-true (off + length xs) d.store.shape.capacity q in folds-along xs off d (omega arith) h
+      go true q = let l : off + length xs ≤ d.store.shape.capacity = leb-true (off + length xs) d.store.shape.capacity q in folds_along xs off d (omega arith) h
       go false q = h
 
   -- ---- erase
 
-  erase_n-along : (k a : ℕ) (d : Dev) → P d → P (erase_n F k a d).dev
+  erase_n_along : (k a : ℕ) (d : Dev) → P d → P (erase_n F k a d).dev
   unfolding erase_n
-  erase_n-along zero a d h = h
-  erase_n-along (suc k) a d h = then-along P (erase_sector F a d) (erase_n F k (a + 4096)) (steps.called d _ (erase_call F a d) h) (erase_n-along k (a + 4096))
+  erase_n_along zero a d h = h
+  erase_n_along (suc k) a d h = then_along P (erase_sector F a d) (erase_n F k (a + 4096)) (steps.called d _ (erase_call F a d) h) (erase_n_along k (a + 4096))
 
   -- so does an erase
-  pub erased-along : (start size : ℕ) (d : Dev) → P d → P (erased F start size d).dev
+  pub erased_along : (start size : ℕ) (d : Dev) → P d → P (erased F start size d).dev
   unfolding erased
-  erased-along start size d h =
-      then-along P (flushes F d) S (flushes-along d h)
-      (λ f k. either-along P (leb (sat_add start size) f.store.shape.capacity) (N f) (out false f) (erase_n-along _ (base 4096 start) f k) k)
+  erased_along start size d h =
+      then_along P (flushes F d) S (flushes_along d h)
+      (λ f k. either_along P (leb (sat_add start size) f.store.shape.capacity) (N f) (out false f) (erase_n_along _ (base 4096 start) f k) k)
     where
       N : Dev → Out
       N = erase_n F (pages_of 4096 (sat_add start size - base 4096 start)) (base 4096 start)
@@ -156,19 +156,19 @@ module _ (F : List ℕ) (P : Dev → Type 0) (top : ℕ) (steps : Steps P top) w
 
   -- ---- read
 
-  seen-along : (b c : Bool) (e f : Dev) (n : ℕ) (r s : List ℕ) → P e → P f
+  seen_along : (b c : Bool) (e f : Dev) (n : ℕ) (r s : List ℕ) → P e → P f
       → P (cond b (cond c (seen (told 0 0 e) r) (seen (told 0 n f) s)) (seen (told 0 0 e) r)).told.dev
-  seen-along true true e f n r s h k = h
-  seen-along true false e f n r s h k = k
-  seen-along false c e f n r s h k = h
+  seen_along true true e f n r s h k = h
+  seen_along true false e f n r s h k = k
+  seen_along false c e f n r s h k = h
 
   -- so does a read
-  pub read_out-along : (off : ℕ) (room : List ℕ) (d : Dev) → P d → P (read_out F off room d).told.dev
+  pub read_out_along : (off : ℕ) (room : List ℕ) (d : Dev) → P d → P (read_out F off room d).told.dev
   unfolding read_out
-  read_out-along off room d h =
+  read_out_along off room d h =
       let f = flushes F d in
       let n = min (length room) (f.dev.store.shape.capacity - off) in
       let g = fetched F off f.dev.store f.dev.chip (take n room) in
       let e = dev g.store f.dev.chip f.dev.buf in
-      let k = flushes-along d h in
-      seen-along f.ok (eqb n 0) f.dev e (cond g.ok n 0) room (g.room ++ drop n room) k (steps.called f.dev e (fetch-call F off (take n room) f.dev) k)
+      let k = flushes_along d h in
+      seen_along f.ok (eqb n 0) f.dev e (cond g.ok n 0) room (g.room ++ drop n room) k (steps.called f.dev e (fetch_call F off (take n room) f.dev) k)

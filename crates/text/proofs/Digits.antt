@@ -20,25 +20,25 @@ pub at_least : (b lo hi : ℕ) {t : Bool} → t ≡ within b (lo – hi) → t �
 at_least b lo hi e h = leb-true lo b (both (leb lo b) (leb b hi) (sym e ∙ h)).0
 
 module _ (b : ℕ) {t : Bool} (e : t ≡ within b (0x30 – 0x39)) where
-  pub digit-9 : t ≡ true → b - 0x30 ≡ digit_of b
+  pub digit_9 : t ≡ true → b - 0x30 ≡ digit_of b
   unfolding digit_of
-  digit-9 h = rw (← e, h)
+  digit_9 h = rw (← e, h)
 
   module _ (h : t ≡ false) {u : Bool} (f : u ≡ within b (0x41 – 0x46)) where
-    pub digit-F : u ≡ true → b - 0x37 ≡ digit_of b
+    pub digit_F : u ≡ true → b - 0x37 ≡ digit_of b
     unfolding digit_of
-    digit-F k = rw (← e, h, ← f, k)
+    digit_F k = rw (← e, h, ← f, k)
 
     module _ (k : u ≡ false) {v : Bool} (g : v ≡ within b (0x61 – 0x66)) where
-      pub digit-f : v ≡ true → b - 0x57 ≡ digit_of b
+      pub digit_f : v ≡ true → b - 0x57 ≡ digit_of b
       unfolding digit_of
-      digit-f l = rw (← e, h, ← f, k, ← g, l)
+      digit_f l = rw (← e, h, ← f, k, ← g, l)
 
-      pub digit-none : v ≡ false → 16 ≡ digit_of b
+      pub digit_none : v ≡ false → 16 ≡ digit_of b
       unfolding digit_of
-      digit-none l = rw (← e, h, ← f, k, ← g, l)
+      digit_none l = rw (← e, h, ← f, k, ← g, l)
 
-pub ruleset digit = (digit-9, digit-F, digit-f, digit-none)
+pub ruleset digit = (digit_9, digit_F, digit_f, digit_none)
 
 -- ---- a run of digits
 
@@ -57,8 +57,8 @@ module _ (base : ℕ) (hb : 1 ≤ base) where
   pub too_large : (v d : ℕ) → (0xFFFF_FFFF_FFFF_FFFF - d) / base < v → d < 2 ^ 64 → 2 ^ 64 ≤ v * base + d
   too_large v d h k = omega (arith, (div-lt_iff_lt-mul hb).0 h)
 
-  pub small-enough : (v d : ℕ) → v ≤ (0xFFFF_FFFF_FFFF_FFFF - d) / base → d < 2 ^ 64 → v * base + d < 2 ^ 64
-  small-enough v d h k = omega (arith, (le-div_iff_mul-le hb).0 h)
+  pub small_enough : (v d : ℕ) → v ≤ (0xFFFF_FFFF_FFFF_FFFF - d) / base → d < 2 ^ 64 → v * base + d < 2 ^ 64
+  small_enough v d h k = omega (arith, (le-div_iff_mul-le hb).0 h)
 
 -- at a place of a text: a digit, no digit, the end
 module _ (base : ℕ) (s : List ℕ) (i v : ℕ) where
@@ -77,28 +77,28 @@ module _ (base : ℕ) (s : List ℕ) (i v : ℕ) where
 -- ---- at least one digit, and a sign, at a place of a text
 
 module _ (base : ℕ) (s : List ℕ) (i : ℕ) where
-  pub some-past : length s ≤ i → Bad ≡ some base (drop i s)
+  pub some_past : length s ≤ i → Bad ≡ some base (drop i s)
   unfolding some
-  some-past h = ap (some base) (sym (drop_of_length-le s h))
+  some_past h = ap (some base) (sym (drop_of_length-le s h))
 
   pub some_at : i < length s → digits base 0 (drop i s) ≡ some base (drop i s)
   unfolding some
   some_at h = rw (drop-cons s i 0)
 
-  pub sign-past : length s ≤ i → Bad ≡ signed base (drop i s)
+  pub sign_past : length s ≤ i → Bad ≡ signed base (drop i s)
   unfolding signed
-  sign-past h = ap (signed base) (sym (drop_of_length-le s h))
+  sign_past h = ap (signed base) (sym (drop_of_length-le s h))
 
-  pub sign-plus : i < length s → get_or s i 0 ≡ 0x2B → some base (drop (i + 1) s) ≡ signed base (drop i s)
+  pub sign_plus : i < length s → get_or s i 0 ≡ 0x2B → some base (drop (i + 1) s) ≡ signed base (drop i s)
   unfolding signed
-  sign-plus h e = rw (add-one, drop-cons s i 0, signed, eq-eqb (get_or s i 0) 0x2B e)
+  sign_plus h e = rw (add-one, drop-cons s i 0, signed, eq-eqb (get_or s i 0) 0x2B e)
 
-  pub sign-none : i < length s → (get_or s i 0 ≡ 0x2B → ⊥) → some base (drop i s) ≡ signed base (drop i s)
+  pub sign_none : i < length s → (get_or s i 0 ≡ 0x2B → ⊥) → some base (drop i s) ≡ signed base (drop i s)
   unfolding signed
-  sign-none h e = rw (drop-cons s i 0, signed, ne_eqb (get_or s i 0) 0x2B e)
+  sign_none h e = rw (drop-cons s i 0, signed, ne_eqb (get_or s i 0) 0x2B e)
 
 -- ---- which base: x is what the test for 0x gave
 
-pub numeral-is : (t : List ℕ) {x : Bool} → x ≡ is_hex t → cond x (signed 16 (drop 2 t)) (signed 10 t) ≡ numeral t
+pub numeral_is : (t : List ℕ) {x : Bool} → x ≡ is_hex t → cond x (signed 16 (drop 2 t)) (signed 10 t) ≡ numeral t
 unfolding numeral
-numeral-is t e = ap (λ (b : Bool). cond b (signed 16 (drop 2 t)) (signed 10 t)) e
+numeral_is t e = ap (λ (b : Bool). cond b (signed 16 (drop 2 t)) (signed 10 t)) e

@@ -1,5 +1,5 @@
--- Laws of runs, tokens and comparisons. Exported for the crates above: `until-length`, `until-take`, `tokens-from`,
--- `place-bounds`, `same-equal`, `same_self`.
+-- Laws of runs, tokens and comparisons. Exported for the crates above: `until_length`, `until_take`, `tokens_from`,
+-- `place_bounds`, `same_equal`, `same_self`.
 -- Assumes nothing.
 use Rattle.std.specs.Prelude.{◌≡◌, ℕ, suc, ◌+◌, ◌<◌, ◌≤◌, Bool, true, false, cond, ◌&&◌, eqb, ltb, List, [], ◌∷◌, length, get_or, take, drop}
 use mathlib.Core.Path.{refl, sym, ap, ap₂, ◌∙◌}
@@ -19,13 +19,13 @@ use Rattle.text.proofs.Tests.{both, front}
 
 module _ (stop : ℕ) where
   -- a run is a front of the list
-  pub until-take : (s : List ℕ) → until stop s ≡ take (length (until stop s)) s
+  pub until_take : (s : List ℕ) → until stop s ≡ take (length (until stop s)) s
   unfolding until
-  until-take [] = refl
-  until-take (b ∷ s) = front (eqb b stop) b s (until-take s)
+  until_take [] = refl
+  until_take (b ∷ s) = front (eqb b stop) b s (until_take s)
 
-  pub until-length : (s : List ℕ) → length (until stop s) ≤ length s
-  until-length s = omega (arith, ap length (until-take s), length-take (length (until stop s)) s)
+  pub until_length : (s : List ℕ) → length (until stop s) ≤ length s
+  until_length s = omega (arith, ap length (until_take s), length-take (length (until stop s)) s)
 
   -- at a place of a list: the end, the byte that stops the run, another byte
   module _ (s : List ℕ) (i : ℕ) where
@@ -43,7 +43,7 @@ module _ (stop : ℕ) where
 
 -- a part that is as long as the run is the run
 pub cut : (stop : ℕ) (s : List ℕ) (n : ℕ) → n ≡ length (until stop s) → take n s ≡ until stop s
-cut stop s n e = ap (λ (k : ℕ). take k s) e ∙ sym (until-take stop s)
+cut stop s n e = ap (λ (k : ℕ). take k s) e ∙ sym (until_take stop s)
 
 -- ---- tokens
 
@@ -69,36 +69,36 @@ module _ (line : List ℕ) (at : ℕ) where
   unfolding place_after
   place_at q h = rw (← q, lt-ltb _ (length line) h)
 
-  pub place-done : {e : ℕ} → e ≡ token_end line at → length line ≤ e → Done ≡ place_after line at
+  pub place_done : {e : ℕ} → e ≡ token_end line at → length line ≤ e → Done ≡ place_after line at
   unfolding place_after
-  place-done q h = rw (← q, le-ltb _ (length line) h)
+  place_done q h = rw (← q, le-ltb _ (length line) h)
 
-  behind-is : behind (drop at line) ≡ rest_of line (place_after line at)
+  behind_is : behind (drop at line) ≡ rest_of line (place_after line at)
   unfolding behind place_after rest_of
-  behind-is = go (ltb (token_end line at) (length line)) refl
+  behind_is = go (ltb (token_end line at) (length line)) refl
     where
       u : ℕ
       u = length (until 0x20 (drop at line))
 
-      past-space : at + suc u ≡ at + u + 1
-      past-space = omega arith
+      past_space : at + suc u ≡ at + u + 1
+      past_space = omega arith
 
       go : (t : Bool) → ltb (at + u) (length line) ≡ t
           → cond (ltb u (length (drop at line))) (tokens_of (drop (suc u) (drop at line))) []
           ≡ rest_of line (cond t (At (at + u + 1)) Done)
       go true e =
           rw (lt-ltb u (length (drop at line)) (omega (arith, ltb-true, length-drop at line)))
-          (ap tokens_of (drop-drop (suc u) at line ∙ ap (λ (n : ℕ). drop n line) past-space))
+          (ap tokens_of (drop-drop (suc u) at line ∙ ap (λ (n : ℕ). drop n line) past_space))
       go false e = rw (le-ltb u (length (drop at line)) (omega (arith, ltb-false, length-drop at line)))
 
   -- the tokens from a place on are the one that starts there and those from the next place on
-  pub tokens-from : tokens_of (drop at line) ≡ until 0x20 (drop at line) ∷ rest_of line (place_after line at)
-  tokens-from = first (drop at line) ∙ ap (λ (ts : List (List ℕ)). until 0x20 (drop at line) ∷ ts) behind-is
+  pub tokens_from : tokens_of (drop at line) ≡ until 0x20 (drop at line) ∷ rest_of line (place_after line at)
+  tokens_from = first (drop at line) ∙ ap (λ (ts : List (List ℕ)). until 0x20 (drop at line) ∷ ts) behind_is
 
   -- the next place lies further on, and within the line
-  pub place-bounds : (p : ℕ) → place_after line at ≡ At p → (at < p) × (p ≤ length line)
+  pub place_bounds : (p : ℕ) → place_after line at ≡ At p → (at < p) × (p ≤ length line)
   unfolding place_after
-  place-bounds p = go (ltb (token_end line at) (length line)) refl
+  place_bounds p = go (ltb (token_end line at) (length line)) refl
     where
       go : (t : Bool) → ltb (token_end line at) (length line) ≡ t → cond t (At (token_end line at + 1)) Done ≡ At p → (at < p) × (p ≤ length line)
       go true e h = let q : token_end line at + 1 ≡ p = cc in omega (arith, ltb-true)
@@ -106,11 +106,11 @@ module _ (line : List ℕ) (at : ℕ) where
 
 -- ---- comparisons
 
-pub starts-short : (s f : List ℕ) → length s < length f → starts_with s f ≡ false
+pub starts_short : (s f : List ℕ) → length s < length f → starts_with s f ≡ false
 unfolding starts_with
-starts-short s [] h = absurd (not-suc-le-zero h)
-starts-short [] (b ∷ f) h = refl
-starts-short (a ∷ s) (b ∷ f) h = go (eqb a b) (starts-short s f (le_of_suc-le-suc h))
+starts_short s [] h = absurd (not-suc-le-zero h)
+starts_short [] (b ∷ f) h = refl
+starts_short (a ∷ s) (b ∷ f) h = go (eqb a b) (starts_short s f (le_of_suc-le-suc h))
   where
     go : (t : Bool) {x : Bool} → x ≡ false → t && x ≡ false
     go true e = e
@@ -118,44 +118,44 @@ starts-short (a ∷ s) (b ∷ f) h = go (eqb a b) (starts-short s f (le_of_suc-l
 
 -- at a place of both texts: the second's end, another byte, the same byte
 module _ (s f : List ℕ) (i : ℕ) where
-  pub starts-end : length f ≤ i → starts_with (drop i s) (drop i f) ≡ true
+  pub starts_end : length f ≤ i → starts_with (drop i s) (drop i f) ≡ true
   unfolding starts_with
-  starts-end h = ap (starts_with (drop i s)) (drop_of_length-le f h)
+  starts_end h = ap (starts_with (drop i s)) (drop_of_length-le f h)
 
-  pub starts-unlike : i < length s → i < length f → (get_or s i 0 ≡ get_or f i 0 → ⊥) → starts_with (drop i s) (drop i f) ≡ false
+  pub starts_unlike : i < length s → i < length f → (get_or s i 0 ≡ get_or f i 0 → ⊥) → starts_with (drop i s) (drop i f) ≡ false
   unfolding starts_with
-  starts-unlike h k e = rw (drop-cons s i 0, drop-cons f i 0, starts_with, ne_eqb (get_or s i 0) (get_or f i 0) e)
+  starts_unlike h k e = rw (drop-cons s i 0, drop-cons f i 0, starts_with, ne_eqb (get_or s i 0) (get_or f i 0) e)
 
-  pub starts-like : i < length s → i < length f → get_or s i 0 ≡ get_or f i 0 → starts_with (drop (i + 1) s) (drop (i + 1) f) ≡ starts_with (drop i s) (drop i f)
+  pub starts_like : i < length s → i < length f → get_or s i 0 ≡ get_or f i 0 → starts_with (drop (i + 1) s) (drop (i + 1) f) ≡ starts_with (drop i s) (drop i f)
   unfolding starts_with
-  starts-like h k e = rw (add-one, drop-cons s i 0, drop-cons f i 0, starts_with, eq-eqb (get_or s i 0) (get_or f i 0) e)
+  starts_like h k e = rw (add-one, drop-cons s i 0, drop-cons f i 0, starts_with, eq-eqb (get_or s i 0) (get_or f i 0) e)
 
 -- texts of one length are equal where one begins with the other
-pub same-starts : (a b : List ℕ) → length a ≡ length b → starts_with a b ≡ same a b
+pub same_starts : (a b : List ℕ) → length a ≡ length b → starts_with a b ≡ same a b
 unfolding starts_with same
-same-starts [] [] h = refl
-same-starts [] (y ∷ b) h = absurd (omega arith)
-same-starts (x ∷ a) [] h = absurd (omega arith)
-same-starts (x ∷ a) (y ∷ b) h = ap (λ (t : Bool). eqb x y && t) (same-starts a b (omega arith))
+same_starts [] [] h = refl
+same_starts [] (y ∷ b) h = absurd (omega arith)
+same_starts (x ∷ a) [] h = absurd (omega arith)
+same_starts (x ∷ a) (y ∷ b) h = ap (λ (t : Bool). eqb x y && t) (same_starts a b (omega arith))
 
 -- `same` says that they are equal
-pub same-equal : (a b : List ℕ) → same a b ≡ true → a ≡ b
+pub same_equal : (a b : List ℕ) → same a b ≡ true → a ≡ b
 unfolding same
-same-equal [] [] e = refl
-same-equal [] (y ∷ b) e = absurd (false≢true e)
-same-equal (x ∷ a) [] e = absurd (false≢true e)
-same-equal (x ∷ a) (y ∷ b) e =
+same_equal [] [] e = refl
+same_equal [] (y ∷ b) e = absurd (false≢true e)
+same_equal (x ∷ a) [] e = absurd (false≢true e)
+same_equal (x ∷ a) (y ∷ b) e =
     let f = both (eqb x y) (same a b) e in
-    ap₂ (λ (u : ℕ) (v : List ℕ). u ∷ v) (eqb-true x y f.0) (same-equal a b f.1)
+    ap₂ (λ (u : ℕ) (v : List ℕ). u ∷ v) (eqb-true x y f.0) (same_equal a b f.1)
 
 pub same_self : (a : List ℕ) → same a a ≡ true
 unfolding same
 same_self [] = refl
 same_self (x ∷ a) = rw (eq-eqb x x refl) (same_self a)
 
-pub same-unlike : (a b : List ℕ) → (length a ≡ length b → ⊥) → same a b ≡ false
-same-unlike a b h = go (same a b) refl
+pub same_unlike : (a b : List ℕ) → (length a ≡ length b → ⊥) → same a b ≡ false
+same_unlike a b h = go (same a b) refl
   where
     go : (t : Bool) → same a b ≡ t → t ≡ false
-    go true e = absurd (h (ap length (same-equal a b e)))
+    go true e = absurd (h (ap length (same_equal a b e)))
     go false e = refl

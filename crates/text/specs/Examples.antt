@@ -13,20 +13,20 @@ use Rattle.text.specs.declared.token.Place.TheVariants.{At, Done}
 -- ---- RFC 3629, sections 7 and 10
 
 -- A, not identical to, Alpha, full stop; and the character U+233B4 behind a byte order mark
-pub utf8-yes : (is_utf8 (0x41 ∷ 0xE2 ∷ 0x89 ∷ 0xA2 ∷ 0xCE ∷ 0x91 ∷ 0x2E ∷ []) ≡ true) × (is_utf8 (0xEF ∷ 0xBB ∷ 0xBF ∷ 0xF0 ∷ 0xA3 ∷ 0x8E ∷ 0xB4 ∷ []) ≡ true)
+pub utf8_yes : (is_utf8 (0x41 ∷ 0xE2 ∷ 0x89 ∷ 0xA2 ∷ 0xCE ∷ 0x91 ∷ 0x2E ∷ []) ≡ true) × (is_utf8 (0xEF ∷ 0xBB ∷ 0xBF ∷ 0xF0 ∷ 0xA3 ∷ 0x8E ∷ 0xB4 ∷ []) ≡ true)
 unfolding begins any_of utf8_1 utf8_2 utf8_3 utf8_4 utf8_char first_of char_len octets is_utf8
-utf8-yes = (refl, refl)
+utf8_yes = (refl, refl)
 
 -- an overlong zero, a surrogate, and a character that is cut off
-pub utf8-no : (is_utf8 (0xC0 ∷ 0x80 ∷ []) ≡ false) × (is_utf8 (0xED ∷ 0xA0 ∷ 0x80 ∷ []) ≡ false) × (is_utf8 (0x41 ∷ 0xE2 ∷ 0x89 ∷ []) ≡ false)
+pub utf8_no : (is_utf8 (0xC0 ∷ 0x80 ∷ []) ≡ false) × (is_utf8 (0xED ∷ 0xA0 ∷ 0x80 ∷ []) ≡ false) × (is_utf8 (0x41 ∷ 0xE2 ∷ 0x89 ∷ []) ≡ false)
 unfolding begins any_of utf8_1 utf8_2 utf8_3 utf8_4 utf8_char first_of char_len octets is_utf8
-utf8-no = (refl, refl, refl)
+utf8_no = (refl, refl, refl)
 
 -- ---- white space: U+3000, `a`, tab, `b`, U+2028, U+0085
 
-pub trim-both : trim (0xE3 ∷ 0x80 ∷ 0x80 ∷ 0x61 ∷ 0x09 ∷ 0x62 ∷ 0xE2 ∷ 0x80 ∷ 0xA8 ∷ 0xC2 ∷ 0x85 ∷ []) ≡ 0x61 ∷ 0x09 ∷ 0x62 ∷ []
+pub trim_both : trim (0xE3 ∷ 0x80 ∷ 0x80 ∷ 0x61 ∷ 0x09 ∷ 0x62 ∷ 0xE2 ∷ 0x80 ∷ 0xA8 ∷ 0xC2 ∷ 0x85 ∷ []) ≡ 0x61 ∷ 0x09 ∷ 0x62 ∷ []
 unfolding begins any_of utf8_1 utf8_2 utf8_3 utf8_4 utf8_char first_of char_len white_space code_point blank_len lead trim_start keep trim_end trim
-trim-both = refl
+trim_both = refl
 
 -- ---- numbers
 
@@ -46,9 +46,9 @@ numbers = (refl, refl, refl, refl, refl)
 
 -- ---- tokens
 
-pub empty-token : tokens_of (ascii "a  b") ≡ ascii "a" ∷ [] ∷ ascii "b" ∷ []
+pub empty_token : tokens_of (ascii "a  b") ≡ ascii "a" ∷ [] ∷ ascii "b" ∷ []
 unfolding tokens_of
-empty-token = refl
+empty_token = refl
 
 -- the same by the places that the caller keeps
 pub places : (place_after (ascii "a  b") 0 ≡ At 2) × (place_after (ascii "a  b") 2 ≡ At 3) × (place_after (ascii "a  b") 3 ≡ Done)

@@ -5,17 +5,17 @@ use borrow.Rule.Slice.PartMut.{put_mid, Post-is}
 use lib.Seq.{drop-length, take-length, sets, sets-eq}
 use Rattle.wire.specs.Bytes.{laid}
 
-copy-suc : (n : ℕ) (d s : List ℕ) → n < length d → n < length s
+copy_suc : (n : ℕ) (d s : List ℕ) → n < length d → n < length s
     → set (take n s ++ drop n d) n (get_or s n 0) ≡ take (suc n) s ++ drop (suc n) d
-copy-suc n [] s l k = absurd (not-suc-le-zero l)
-copy-suc n (x ∷ d) [] l k = absurd (not-suc-le-zero k)
-copy-suc zero (x ∷ d) (y ∷ s) l k = refl
-copy-suc (suc n) (x ∷ d) (y ∷ s) l k = ap (λ (t : List ℕ). y ∷ t) (copy-suc n d s (le_of_suc-le-suc l) (le_of_suc-le-suc k))
+copy_suc n [] s l k = absurd (not-suc-le-zero l)
+copy_suc n (x ∷ d) [] l k = absurd (not-suc-le-zero k)
+copy_suc zero (x ∷ d) (y ∷ s) l k = refl
+copy_suc (suc n) (x ∷ d) (y ∷ s) l k = ap (λ (t : List ℕ). y ∷ t) (copy_suc n d s (le_of_suc-le-suc l) (le_of_suc-le-suc k))
 
 -- a turn of a loop that copies s over d from the front
 pub copy_more : (n : ℕ) (d s : List ℕ) → n < length d → n < length s
     → set (take n s ++ drop n d) n (get_or s n 0) ≡ take (n + 1) s ++ drop (n + 1) d
-copy_more n d s l k = rw add-one (copy-suc n d s l k)
+copy_more n d s l k = rw add-one (copy_suc n d s l k)
 
 -- the copy is whole once the counter has come to the length
 pub copied : (n : ℕ) (d s : List ℕ) → n ≡ length d → length s ≡ length d → take n s ++ drop n d ≡ s
@@ -24,27 +24,27 @@ copied n d s e q = rw (e, drop-length d, append-nil, ← q, take-length s)
 -- ---- bytes laid over others
 
 -- where they do not fit, nothing
-pub laid-not : (s : List ℕ) (at : ℕ) (xs : List ℕ) → length s < at + length xs → s ≡ laid s at xs
+pub laid_not : (s : List ℕ) (at : ℕ) (xs : List ℕ) → length s < at + length xs → s ≡ laid s at xs
 unfolding laid
-laid-not s at xs h = rw lt-leb
+laid_not s at xs h = rw lt-leb
 
 -- where they fit, the part `&mut s[at..]` that comes back as them
-pub laid-part : (s : List ℕ) (at : ℕ) (xs ys : List ℕ) → at + length xs ≤ length s → ys ≡ xs → put_mid at (at + length xs - at) s ys ≡ laid s at xs
+pub laid_part : (s : List ℕ) (at : ℕ) (xs ys : List ℕ) → at + length xs ≤ length s → ys ≡ xs → put_mid at (at + length xs - at) s ys ≡ laid s at xs
 unfolding laid
-laid-part s at xs ys h q =
+laid_part s at xs ys h q =
     ap₂ (λ (y d : List ℕ). take at s ++ (y ++ d)) q (Post-is at (at + length xs) s (omega arith))
     ∙ sym (append_assoc (take at s) xs (drop (at + length xs) s))
     ∙ sym (sets-eq xs s at h)
     ∙ ap (λ (t : Bool). cond t (sets s at xs) s) (sym (le-leb (at + length xs) (length s) h))
 
 -- the same as a front, the bytes and what lies behind them
-pub laid-fits : (s : List ℕ) (at : ℕ) (xs : List ℕ) → at + length xs ≤ length s → laid s at xs ≡ take at s ++ (xs ++ drop (length xs) (drop at s))
+pub laid_fits : (s : List ℕ) (at : ℕ) (xs : List ℕ) → at + length xs ≤ length s → laid s at xs ≡ take at s ++ (xs ++ drop (length xs) (drop at s))
 unfolding laid
-laid-fits s at xs h =
+laid_fits s at xs h =
     rw (le-leb (at + length xs) (length s) h) (sets-eq xs s at h ∙ rw (append_assoc, ← drop-drop (length xs) at s))
 
 -- as many bytes as there is room: all of it
-pub laid-whole : (s xs : List ℕ) → length xs ≡ length s → laid s 0 xs ≡ xs
-laid-whole s xs e =
+pub laid_whole : (s xs : List ℕ) → length xs ≡ length s → laid s 0 xs ≡ xs
+laid_whole s xs e =
     let h : length s ≤ length xs = omega arith in
-    laid-fits s 0 xs (omega arith) ∙ ap (λ (l : List ℕ). xs ++ l) (drop_of_length-le s h) ∙ append-nil xs
+    laid_fits s 0 xs (omega arith) ∙ ap (λ (l : List ℕ). xs ++ l) (drop_of_length-le s h) ∙ append-nil xs

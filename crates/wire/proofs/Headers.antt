@@ -14,15 +14,15 @@ unfolding parsed accepted
 short s h = rw lt-leb
 
 module _ (s : List ℕ) (h : 16 ≤ length s) {m : ℕ} (p : m ≡ word_at 4 s 0) where
-  pub other-magic : (m ≡ request_magic → ⊥) → Bad ≡ parsed s
+  pub other_magic : (m ≡ request_magic → ⊥) → Bad ≡ parsed s
   unfolding parsed accepted
-  other-magic q = rw (le-leb, ← p, ne_eqb m request_magic q)
+  other_magic q = rw (le-leb, ← p, ne_eqb m request_magic q)
 
   module _ (q : m ≡ request_magic) {len sum told : ℕ} (r : len ≡ word_at 4 s 8) (t : told ≡ word_at 4 s 12)
       (u : sum ≡ checksum_of m (get_or s 6 0) (get_or s 7 0) len) where
-    pub other-sum : (told ≡ sum → ⊥) → Bad ≡ parsed s
+    pub other_sum : (told ≡ sum → ⊥) → Bad ≡ parsed s
     unfolding parsed accepted
-    other-sum n =
+    other_sum n =
         rw (le-leb, ← p, eq-eqb m request_magic q, ← t, ← r, ← ap (λ (x : ℕ). checksum_of x (get_or s 6 0) (get_or s 7 0) len) q, ← u, ne_eqb told sum n)
 
     pub read : told ≡ sum → Request (get_or s 6 0) (get_or s 7 0) len ≡ parsed s
@@ -32,18 +32,18 @@ module _ (s : List ℕ) (h : 16 ≤ length s) {m : ℕ} (p : m ≡ word_at 4 s 0
 
 -- ---- a CBW
 
-pub cbw-short : (s : List ℕ) → length s < 31 → NoCbw ≡ cbw_of s
+pub cbw_short : (s : List ℕ) → length s < 31 → NoCbw ≡ cbw_of s
 unfolding cbw_of is_cbw
-cbw-short s h = rw lt-leb
+cbw_short s h = rw lt-leb
 
 module _ (s : List ℕ) (h : 31 ≤ length s) {m : ℕ} (p : m ≡ word_at 4 s 0) where
-  pub cbw-other : (m ≡ cbw_magic → ⊥) → NoCbw ≡ cbw_of s
+  pub cbw_other : (m ≡ cbw_magic → ⊥) → NoCbw ≡ cbw_of s
   unfolding cbw_of is_cbw
-  cbw-other q = rw (le-leb, ← p, ne_eqb m cbw_magic q)
+  cbw_other q = rw (le-leb, ← p, ne_eqb m cbw_magic q)
 
-  pub cbw-read : (m ≡ cbw_magic) → {tag len : ℕ} → tag ≡ word_at 4 s 4 → len ≡ word_at 4 s 8 → Command tag len (get_or s 15 0) ≡ cbw_of s
+  pub cbw_read : (m ≡ cbw_magic) → {tag len : ℕ} → tag ≡ word_at 4 s 4 → len ≡ word_at 4 s 8 → Command tag len (get_or s 15 0) ≡ cbw_of s
   unfolding cbw_of is_cbw
-  cbw-read q t l = rw (le-leb, ← p, eq-eqb m cbw_magic q, ← t, ← l)
+  cbw_read q t l = rw (le-leb, ← p, eq-eqb m cbw_magic q, ← t, ← l)
 
 -- ---- the round trip
 
@@ -55,19 +55,19 @@ module _ (command status len : ℕ) (rest : List ℕ) (h : len < 2 ^ 32) where
   built : List ℕ
   built = header_of request_magic command status len ++ rest
 
-  built-length : word_at 4 built 8 ≡ len
+  built_length : word_at 4 built 8 ≡ len
   unfolding built header_of bytes_of word_at le
-  built-length = again len h
+  built_length = again len h
 
-  built-sum : word_at 4 built 12 ≡ checksum_of request_magic command status len
+  built_sum : word_at 4 built 12 ≡ checksum_of request_magic command status len
   unfolding built header_of bytes_of word_at le
-  built-sum = again (checksum_of request_magic command status len) (unfold checksum_of in mod-lt _ (omega arith))
+  built_sum = again (checksum_of request_magic command status len) (unfold checksum_of in mod-lt _ (omega arith))
 
-  built-long : 16 ≤ length built
+  built_long : 16 ≤ length built
   unfolding built header_of bytes_of
-  built-long = omega arith
+  built_long = omega arith
 
   -- THE LAW: a request's header that is built is parsed back, whatever stands behind it
-  pub built-is-read : parsed (header_of request_magic command status len ++ rest) ≡ Request command status len
+  pub built_is_read : parsed (header_of request_magic command status len ++ rest) ≡ Request command status len
   unfolding built header_of bytes_of word_at le
-  built-is-read = sym (read built built-long refl refl (sym built-length) (sym built-sum) refl refl)
+  built_is_read = sym (read built built_long refl refl (sym built_length) (sym built_sum) refl refl)

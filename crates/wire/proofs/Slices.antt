@@ -6,36 +6,36 @@ use Rattle.wire.specs.Crc.{◌⊕◌, shifts, byte_in, crc_from}
 use Rattle.wire.specs.Slices.{entry, slice_table}
 use Rattle.wire.specs.Table.{at}
 use Rattle.wire.proofs.Words.{four, halves}
-use Rattle.wire.proofs.Xor.{⊕-assoc, ⊕-comm, ⊕-zero, ⊕-shr, ⊕-shifted}
-use Rattle.wire.proofs.Register.{shifts-add, shifts-⊕, shifts-out, shifts-split, crc-append}
+use Rattle.wire.proofs.Xor.{⊕_assoc, ⊕_comm, ⊕_zero, ⊕_shr, ⊕_shifted}
+use Rattle.wire.proofs.Register.{shifts_add, shifts-⊕, shifts_out, shifts_split, crc_append}
 
 -- ---- eight bytes at once
 
 -- a register takes a number in after n shifts as before them
 before : (n x b : ℕ) → shifts n x ⊕ b ≡ shifts n (x ⊕ b * 2 ^ n)
-before n x b = ap (λ (k : ℕ). shifts n x ⊕ k) (sym (shifts-out n b)) ∙ sym (shifts-⊕ n x (b * 2 ^ n))
+before n x b = ap (λ (k : ℕ). shifts n x ⊕ k) (sym (shifts_out n b)) ∙ sym (shifts-⊕ n x (b * 2 ^ n))
 
 -- a run of bytes goes in as one number
-crc-word : (l : List ℕ) (r : ℕ) → ((k : ℕ) → get_or l k 0 < 256) → crc_from r l ≡ shifts (8 * length l) (r ⊕ le l)
+crc_word : (l : List ℕ) (r : ℕ) → ((k : ℕ) → get_or l k 0 < 256) → crc_from r l ≡ shifts (8 * length l) (r ⊕ le l)
 unfolding crc_from byte_in le
-crc-word [] r h = sym (unfold shifts in ⊕-zero r)
-crc-word (b ∷ l) r h =
-    crc-word l (shifts 8 (r ⊕ b)) (λ k. h (suc k))
-    ∙ ap (shifts (8 * length l)) (before 8 (r ⊕ b) (le l) ∙ ap (shifts 8) (⊕-assoc r b (le l * 256) ∙ ap (λ (x : ℕ). r ⊕ x) low))
-    ∙ shifts-add 8 (8 * length l) (r ⊕ (b + 256 * le l))
+crc_word [] r h = sym (unfold shifts in ⊕_zero r)
+crc_word (b ∷ l) r h =
+    crc_word l (shifts 8 (r ⊕ b)) (λ k. h (suc k))
+    ∙ ap (shifts (8 * length l)) (before 8 (r ⊕ b) (le l) ∙ ap (shifts 8) (⊕_assoc r b (le l * 256) ∙ ap (λ (x : ℕ). r ⊕ x) low))
+    ∙ shifts_add 8 (8 * length l) (r ⊕ (b + 256 * le l))
     ∙ ap (λ (n : ℕ). shifts n (r ⊕ (b + 256 * le l))) count
   where
     low : b ⊕ le l * 256 ≡ b + 256 * le l
-    low = ⊕-comm b (le l * 256) ∙ ⊕-shifted (le l) 8 b (h 0) ∙ omega arith
+    low = ⊕_comm b (le l * 256) ∙ ⊕_shifted (le l) 8 b (h 0) ∙ omega arith
 
     count : 8 + 8 * length l ≡ 8 * suc (length l)
     count = omega arith
 
-take-small : (n : ℕ) (l : List ℕ) (k : ℕ) → get_or l k 0 < 256 → get_or (take n l) k 0 < 256
-take-small zero l k h = lit< tt
-take-small (suc n) [] k h = h
-take-small (suc n) (b ∷ l) zero h = h
-take-small (suc n) (b ∷ l) (suc k) h = take-small n l k h
+take_small : (n : ℕ) (l : List ℕ) (k : ℕ) → get_or l k 0 < 256 → get_or (take n l) k 0 < 256
+take_small zero l k h = lit< tt
+take_small (suc n) [] k h = h
+take_small (suc n) (b ∷ l) zero h = h
+take_small (suc n) (b ∷ l) (suc k) h = take_small n l k h
 
 -- the sum that the code forms of eight bytes
 pub eight : (l : List ℕ)
@@ -45,26 +45,26 @@ pub eight : (l : List ℕ)
 eight l = ap₂ (λ (x y : ℕ). x + 0x1_0000_0000 * y) (four l) (simp get_or-drop at (four (drop 4 l))) ∙ halves l
 
 -- one turn: eight bytes
-pub crc-turn : (s : List ℕ) (i r : ℕ) → i + 8 ≤ length s → ((k : ℕ) → get_or s k 0 < 256)
+pub crc_turn : (s : List ℕ) (i r : ℕ) → i + 8 ≤ length s → ((k : ℕ) → get_or s k 0 < 256)
     → crc_from (shifts 64 (r ⊕ le (take 8 (drop i s)))) (drop (i + 8) s) ≡ crc_from r (drop i s)
-crc-turn s i r h hb =
-    ap₂ crc_from (sym (crc-word (take 8 (drop i s)) r small ∙ ap (λ (n : ℕ). shifts (8 * n) (r ⊕ le (take 8 (drop i s)))) long)) (sym (drop-drop 8 i s))
-    ∙ sym (crc-append (take 8 (drop i s)) (drop 8 (drop i s)) r)
+crc_turn s i r h hb =
+    ap₂ crc_from (sym (crc_word (take 8 (drop i s)) r small ∙ ap (λ (n : ℕ). shifts (8 * n) (r ⊕ le (take 8 (drop i s)))) long)) (sym (drop-drop 8 i s))
+    ∙ sym (crc_append (take 8 (drop i s)) (drop 8 (drop i s)) r)
     ∙ ap (crc_from r) (take-append-drop 8 (drop i s))
   where
     long : length (take 8 (drop i s)) ≡ 8
     long = length-take 8 (drop i s) ∙ omega (arith, length-drop i s)
 
     small : (k : ℕ) → get_or (take 8 (drop i s)) k 0 < 256
-    small k = take-small 8 (drop i s) k (rw get_or-drop (hb (i + k)))
+    small k = take_small 8 (drop i s) k (rw get_or-drop (hb (i + k)))
 
 -- ---- the table
 
 -- the lowest bits apart
 peel : (m n x : ℕ) → shifts (m + n) x ≡ shifts n (x / 2 ^ m) ⊕ shifts (m + n) (x % 2 ^ m)
 peel m n x =
-    sym (shifts-add m n x) ∙ ap (shifts n) (shifts-split m x) ∙ shifts-⊕ n (x / 2 ^ m) (shifts m (x % 2 ^ m))
-    ∙ ap (λ (k : ℕ). shifts n (x / 2 ^ m) ⊕ k) (shifts-add m n (x % 2 ^ m))
+    sym (shifts_add m n x) ∙ ap (shifts n) (shifts_split m x) ∙ shifts-⊕ n (x / 2 ^ m) (shifts m (x % 2 ^ m))
+    ∙ ap (λ (k : ℕ). shifts n (x / 2 ^ m) ⊕ k) (shifts_add m n (x % 2 ^ m))
 
 -- eight bytes in halves
 pub in_halves : (x : ℕ) → shifts 32 (x / 2 ^ 32) ⊕ shifts 64 (x % 2 ^ 32) ≡ shifts 64 x
@@ -82,12 +82,12 @@ row j y h = at entry 2048 (j * 256 + y % 256) (omega arith) ∙ ap₂ (λ (a b :
     place = omega arith
 
 -- a lookup
-row-turn : (r y j : ℕ) → j < 8
+row_turn : (r y j : ℕ) → j < 8
     → (r ⊕ get_or slice_table (j * 256 + y % 256) 0) ⊕ shifts (64 - 8 * (j + 1)) (y / 256) ≡ r ⊕ shifts (64 - 8 * j) y
-row-turn r y j h =
-    ⊕-assoc r (get_or slice_table (j * 256 + y % 256) 0) (shifts (64 - 8 * (j + 1)) (y / 256))
+row_turn r y j h =
+    ⊕_assoc r (get_or slice_table (j * 256 + y % 256) 0) (shifts (64 - 8 * (j + 1)) (y / 256))
     ∙ ap (λ (x : ℕ). r ⊕ x)
-    (⊕-comm (get_or slice_table (j * 256 + y % 256) 0) (shifts (64 - 8 * (j + 1)) (y / 256))
+    (⊕_comm (get_or slice_table (j * 256 + y % 256) 0) (shifts (64 - 8 * (j + 1)) (y / 256))
     ∙ ap (λ (x : ℕ). shifts (64 - 8 * (j + 1)) (y / 256) ⊕ x) (row j y h ∙ ap (λ (n : ℕ). shifts n (y % 256)) (sym count))
     ∙ sym (peel 8 (64 - 8 * (j + 1)) y)
     ∙ ap (λ (n : ℕ). shifts n y) count)
@@ -102,11 +102,11 @@ further x y j e = ap (λ (k : ℕ). k / 256) e ∙ shr-shr x (8 * j) 8 ∙ ap (�
     count = omega arith
 
 -- a turn of the loop over four bytes
-pub rows-turn : (r y up j z : ℕ) → up ≤ 4 → j < 4 → r ⊕ shifts (64 - 8 * (up + j)) y ≡ z
+pub rows_turn : (r y up j z : ℕ) → up ≤ 4 → j < 4 → r ⊕ shifts (64 - 8 * (up + j)) y ≡ z
     → (r ⊕ get_or slice_table ((up + j) * 256 + y % 256) 0) ⊕ shifts (64 - 8 * (up + (j + 1))) (y / 256) ≡ z
-rows-turn r y up j z h i e =
+rows_turn r y up j z h i e =
     let k : up + (j + 1) ≡ up + j + 1 = omega arith in
-    ap (λ (n : ℕ). (r ⊕ get_or slice_table ((up + j) * 256 + y % 256) 0) ⊕ shifts (64 - 8 * n) (y / 256)) k ∙ row-turn r y (up + j) (omega arith) ∙ e
+    ap (λ (n : ℕ). (r ⊕ get_or slice_table ((up + j) * 256 + y % 256) 0) ⊕ shifts (64 - 8 * n) (y / 256)) k ∙ row_turn r y (up + j) (omega arith) ∙ e
 
 -- after four bytes nothing is left
 pub all_in : (r y x up j z : ℕ) → 4 ≤ j → j ≤ 4 → x < 2 ^ 32 → y ≡ x / 2 ^ (8 * j) → r ⊕ shifts (64 - 8 * (up + j)) y ≡ z → r ≡ z
@@ -115,13 +115,13 @@ all_in r y x up j z a b h e q =
     let i : y ≡ x / 2 ^ 32 = e ∙ ap (λ (n : ℕ). x / 2 ^ (8 * n)) k in
     let n : ℕ = 64 - 8 * (up + j) in
     let o : y ≡ 0 * 2 ^ n = omega (arith, zero-mul (2 ^ n)) in
-    sym (⊕-zero r) ∙ ap (λ (k : ℕ). r ⊕ k) (sym (ap (shifts n) o ∙ shifts-out n 0)) ∙ q
+    sym (⊕_zero r) ∙ ap (λ (k : ℕ). r ⊕ k) (sym (ap (shifts n) o ∙ shifts_out n 0)) ∙ q
 
 -- one byte, by the last row
-pub byte-in : (r b : ℕ) → b < 256 → r / 256 ⊕ get_or slice_table (1792 + (r ⊕ b) % 256) 0 ≡ byte_in r b
+pub byte_in_lem : (r b : ℕ) → b < 256 → r / 256 ⊕ get_or slice_table (1792 + (r ⊕ b) % 256) 0 ≡ byte_in r b
 unfolding byte_in
-byte-in r b h =
-    ap₂ ◌⊕◌ (sym (⊕-shr r b 8 ∙ ap (λ (x : ℕ). r / 256 ⊕ x) none ∙ ⊕-zero (r / 256))) (row 7 (r ⊕ b) (lit< tt)) ∙ sym (shifts-split 8 (r ⊕ b))
+byte_in_lem r b h =
+    ap₂ ◌⊕◌ (sym (⊕_shr r b 8 ∙ ap (λ (x : ℕ). r / 256 ⊕ x) none ∙ ⊕_zero (r / 256))) (row 7 (r ⊕ b) (lit< tt)) ∙ sym (shifts_split 8 (r ⊕ b))
   where
     none : b / 256 ≡ 0
     none = omega arith

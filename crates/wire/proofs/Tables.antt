@@ -4,7 +4,7 @@ use Rattle.std.proofs.Common.{◌≡◌, ℕ, zero, suc, ◌+◌, ◌-◌, ◌*�
 use Rattle.wire.specs.Crc.{◌⊕◌, shifts}
 use Rattle.wire.specs.Slices.{entry, slice_table}
 use Rattle.wire.specs.Table.{table_of, at}
-use Rattle.wire.proofs.Register.{shifts-split, shifts-add}
+use Rattle.wire.proofs.Register.{shifts_split, shifts_add}
 
 -- eight shifts by a lookup
 unfoldable pub eight_more : List ℕ → ℕ → ℕ
@@ -19,9 +19,9 @@ unfoldable pub stack : List ℕ → ℕ → List ℕ → List ℕ
 stack last zero row = row
 stack last (suc k) row = stack last k (each (eight_more last) row) ++ row
 
-eight-more : (x : ℕ) → eight_more (table_of (shifts 8) 256 0) x ≡ shifts 8 x
+eight_more_lem : (x : ℕ) → eight_more (table_of (shifts 8) 256 0) x ≡ shifts 8 x
 unfolding eight_more
-eight-more x = ap (λ (y : ℕ). x / 256 ⊕ y) (at (shifts 8) 256 (x % 256) (mod-lt x (zero-lt-suc 255))) ∙ sym (shifts-split 8 x)
+eight_more_lem x = ap (λ (y : ℕ). x / 256 ⊕ y) (at (shifts 8) 256 (x % 256) (mod-lt x (zero-lt-suc 255))) ∙ sym (shifts_split 8 x)
 
 -- ---- tables
 
@@ -50,7 +50,7 @@ before : (n : ℕ) → each (eight_more (table_of (shifts 8) 256 0)) (table_of (
 before n =
     each_of (eight_more (table_of (shifts 8) 256 0)) (shifts n) 256 0
     ∙ same (λ x. eight_more (table_of (shifts 8) 256 0) (shifts n x)) (shifts (n + 8)) 256 0 0
-    (λ d l. eight-more (shifts n (0 + d)) ∙ shifts-add n 8 (0 + d))
+    (λ d l. eight_more_lem (shifts n (0 + d)) ∙ shifts_add n 8 (0 + d))
 
 -- row k stands at k * 256
 row_at : (k : ℕ) → table_of (shifts (64 - 8 * k)) 256 0 ≡ table_of entry 256 (k * 256)

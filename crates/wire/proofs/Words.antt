@@ -42,31 +42,31 @@ past n s at h = rw (drop_of_length-le s (le_of_lt h), take-nil)
 pub rest : (s : List ℕ) (at : ℕ) → take (length s - at) (drop at s) ≡ drop at s
 rest s at = take_all (length s - at) (drop at s) (rw length-drop (omega arith))
 
-pub eight-at : (s : List ℕ) (at : ℕ) → le (take 4 (drop at s)) + 0x1_0000_0000 * le (take 4 (drop (at + 4) s)) ≡ le (take 8 (drop at s))
-eight-at s at =
+pub eight_at : (s : List ℕ) (at : ℕ) → le (take 4 (drop at s)) + 0x1_0000_0000 * le (take 4 (drop (at + 4) s)) ≡ le (take 8 (drop at s))
+eight_at s at =
     ap (λ (t : List ℕ). le (take 4 (drop at s)) + 0x1_0000_0000 * le (take 4 t)) (sym (drop-drop 4 at s)) ∙ halves (drop at s)
 
-pub eight-short : (s : List ℕ) (at : ℕ) → length s - at < 4 → le (take 4 (drop at s)) ≡ le (take 8 (drop at s))
-eight-short s at h =
+pub eight_short : (s : List ℕ) (at : ℕ) → length s - at < 4 → le (take 4 (drop at s)) ≡ le (take 8 (drop at s))
+eight_short s at h =
     rw (take_all 4 (drop at s) (rw length-drop (omega arith)), take_all 8 (drop at s) (rw length-drop (omega arith)))
 
 -- ---- a number laid down is read back
 
-pub length-bytes_of : (n x : ℕ) → length (bytes_of n x) ≡ n
+pub length_bytes_of : (n x : ℕ) → length (bytes_of n x) ≡ n
 unfolding bytes_of
-length-bytes_of zero x = refl
-length-bytes_of (suc n) x = ap suc (length-bytes_of n (x / 256))
+length_bytes_of zero x = refl
+length_bytes_of (suc n) x = ap suc (length_bytes_of n (x / 256))
 
 pos : (n : ℕ) → 0 < 256 ^ n
 pos zero = lit< tt
 pos (suc n) = rw pow-suc (omega (arith, pos n))
 
 -- the bytes of x make x again, as far as they go
-pub le-bytes_of : (n x : ℕ) → le (bytes_of n x) ≡ x % 256 ^ n
+pub le_bytes_of : (n x : ℕ) → le (bytes_of n x) ≡ x % 256 ^ n
 unfolding le bytes_of
-le-bytes_of zero x = sym (mod-one x)
-le-bytes_of (suc n) x =
-    ap (λ (y : ℕ). x % 256 + 256 * y) (le-bytes_of n (x / 256))
+le_bytes_of zero x = sym (mod-one x)
+le_bytes_of (suc n) x =
+    ap (λ (y : ℕ). x % 256 + 256 * y) (le_bytes_of n (x / 256))
     ∙ add_comm (x % 256) (256 * (x / 256 % 256 ^ n))
     ∙ ap (λ (y : ℕ). y + x % 256) (mul_comm 256 (x / 256 % 256 ^ n))
     ∙ sym (mod-mul x (pos n) (zero-lt-suc 255))

@@ -7,76 +7,76 @@ use Rattle.wire.specs.Crc.{◌⊕◌}
 two : (n : ℕ) → n % 2 < 2
 two n = mod-lt n (zero-lt-suc 1)
 
-differ-lt : (x y : ℕ) → x < 2 → y < 2 → differ x y < 2
-differ-lt zero y hx hy = hy
-differ-lt (suc zero) zero hx hy = hx
-differ-lt (suc zero) (suc zero) hx hy = omega arith
-differ-lt (suc zero) (suc (suc y)) hx hy = omega arith
-differ-lt (suc (suc x)) y hx hy = omega arith
+differ_lt : (x y : ℕ) → x < 2 → y < 2 → differ x y < 2
+differ_lt zero y hx hy = hy
+differ_lt (suc zero) zero hx hy = hx
+differ_lt (suc zero) (suc zero) hx hy = omega arith
+differ_lt (suc zero) (suc (suc y)) hx hy = omega arith
+differ_lt (suc (suc x)) y hx hy = omega arith
 
-differ-assoc : (x y z : ℕ) → x < 2 → y < 2 → z < 2 → differ (differ x y) z ≡ differ x (differ y z)
-differ-assoc zero y z hx hy hz = refl
-differ-assoc (suc zero) zero z hx hy hz = refl
-differ-assoc (suc zero) (suc zero) zero hx hy hz = refl
-differ-assoc (suc zero) (suc zero) (suc zero) hx hy hz = refl
-differ-assoc (suc zero) (suc zero) (suc (suc z)) hx hy hz = omega arith
-differ-assoc (suc zero) (suc (suc y)) z hx hy hz = omega arith
-differ-assoc (suc (suc x)) y z hx hy hz = omega arith
+differ_assoc : (x y z : ℕ) → x < 2 → y < 2 → z < 2 → differ (differ x y) z ≡ differ x (differ y z)
+differ_assoc zero y z hx hy hz = refl
+differ_assoc (suc zero) zero z hx hy hz = refl
+differ_assoc (suc zero) (suc zero) zero hx hy hz = refl
+differ_assoc (suc zero) (suc zero) (suc zero) hx hy hz = refl
+differ_assoc (suc zero) (suc zero) (suc (suc z)) hx hy hz = omega arith
+differ_assoc (suc zero) (suc (suc y)) z hx hy hz = omega arith
+differ_assoc (suc (suc x)) y z hx hy hz = omega arith
 
 odd : (a b : ℕ) → bit_xor a b % 2 ≡ differ (a % 2) (b % 2)
-odd a b = ap (λ (n : ℕ). n % 2) (xor_step a b) ∙ digits_mod (bit_xor (a / 2) (b / 2)) (differ-lt (a % 2) (b % 2) (two a) (two b))
+odd a b = ap (λ (n : ℕ). n % 2) (xor_step a b) ∙ digits_mod (bit_xor (a / 2) (b / 2)) (differ_lt (a % 2) (b % 2) (two a) (two b))
 
-pub ⊕-assoc : (a b c : ℕ) → (a ⊕ b) ⊕ c ≡ a ⊕ (b ⊕ c)
+pub ⊕_assoc : (a b c : ℕ) → (a ⊕ b) ⊕ c ≡ a ⊕ (b ⊕ c)
 unfolding ◌⊕◌
-⊕-assoc a =
+⊕_assoc a =
     bin_ind (λ (n : ℕ). (b c : ℕ) → bit_xor (bit_xor n b) c ≡ bit_xor n (bit_xor b c)) (λ b c. refl)
     (λ n ih b c.
     xor_step (bit_xor n b) c
     ∙ ap₂ (λ (h o : ℕ). h * 2 + o)
     (ap (λ (h : ℕ). bit_xor h (c / 2)) (xor_shr n b 1) ∙ ih (b / 2) (c / 2) ∙ ap (bit_xor (n / 2)) (sym (xor_shr b c 1)))
-    (ap (λ (o : ℕ). differ o (c % 2)) (odd n b) ∙ differ-assoc (n % 2) (b % 2) (c % 2) (two n) (two b) (two c) ∙ ap (differ (n % 2)) (sym (odd b c)))
+    (ap (λ (o : ℕ). differ o (c % 2)) (odd n b) ∙ differ_assoc (n % 2) (b % 2) (c % 2) (two n) (two b) (two c) ∙ ap (differ (n % 2)) (sym (odd b c)))
     ∙ sym (xor_step n (bit_xor b c))) a
 
-pub ⊕-comm : (a b : ℕ) → a ⊕ b ≡ b ⊕ a
+pub ⊕_comm : (a b : ℕ) → a ⊕ b ≡ b ⊕ a
 unfolding ◌⊕◌
-⊕-comm a b = xor_comm a b
+⊕_comm a b = xor_comm a b
 
-pub ⊕-left-comm : (a b c : ℕ) → a ⊕ (b ⊕ c) ≡ b ⊕ (a ⊕ c)
-⊕-left-comm a b c = sym (⊕-assoc a b c) ∙ ap (λ (n : ℕ). n ⊕ c) (⊕-comm a b) ∙ ⊕-assoc b a c
+pub ⊕_left_comm : (a b c : ℕ) → a ⊕ (b ⊕ c) ≡ b ⊕ (a ⊕ c)
+⊕_left_comm a b c = sym (⊕_assoc a b c) ∙ ap (λ (n : ℕ). n ⊕ c) (⊕_comm a b) ∙ ⊕_assoc b a c
 
-pub ⊕-half : (a b : ℕ) → (a ⊕ b) / 2 ≡ a / 2 ⊕ b / 2
+pub ⊕_half : (a b : ℕ) → (a ⊕ b) / 2 ≡ a / 2 ⊕ b / 2
 unfolding ◌⊕◌
-⊕-half a b = xor_shr a b 1
+⊕_half a b = xor_shr a b 1
 
-pub ⊕-odd : (a b : ℕ) → (a ⊕ b) % 2 ≡ a % 2 ⊕ b % 2
+pub ⊕_odd : (a b : ℕ) → (a ⊕ b) % 2 ≡ a % 2 ⊕ b % 2
 unfolding ◌⊕◌
-⊕-odd a b = xor_mod a b 1
+⊕_odd a b = xor_mod a b 1
 
-pub ⊕-shr : (a b k : ℕ) → (a ⊕ b) / 2 ^ k ≡ a / 2 ^ k ⊕ b / 2 ^ k
+pub ⊕_shr : (a b k : ℕ) → (a ⊕ b) / 2 ^ k ≡ a / 2 ^ k ⊕ b / 2 ^ k
 unfolding ◌⊕◌
-⊕-shr a b k = xor_shr a b k
+⊕_shr a b k = xor_shr a b k
 
-pub ⊕-mod : (a b k : ℕ) → (a ⊕ b) % 2 ^ k ≡ a % 2 ^ k ⊕ b % 2 ^ k
+pub ⊕_mod : (a b k : ℕ) → (a ⊕ b) % 2 ^ k ≡ a % 2 ^ k ⊕ b % 2 ^ k
 unfolding ◌⊕◌
-⊕-mod a b k = xor_mod a b k
+⊕_mod a b k = xor_mod a b k
 
-pub ⊕-zero : (a : ℕ) → a ⊕ 0 ≡ a
+pub ⊕_zero : (a : ℕ) → a ⊕ 0 ≡ a
 unfolding ◌⊕◌
-⊕-zero a = xor_zero_r a
+⊕_zero a = xor_zero_r a
 
 pub zero-⊕ : (a : ℕ) → 0 ⊕ a ≡ a
 unfolding ◌⊕◌
 zero-⊕ a = refl
 
-pub ⊕-self : (a : ℕ) → a ⊕ a ≡ 0
+pub ⊕_self : (a : ℕ) → a ⊕ a ≡ 0
 unfolding ◌⊕◌
-⊕-self a = xor_self a
+⊕_self a = xor_self a
 
-pub ⊕-lt : (k a b : ℕ) → a < 2 ^ k → b < 2 ^ k → a ⊕ b < 2 ^ k
+pub ⊕_lt : (k a b : ℕ) → a < 2 ^ k → b < 2 ^ k → a ⊕ b < 2 ^ k
 unfolding ◌⊕◌
-⊕-lt k a b = xor_lt k a b
+⊕_lt k a b = xor_lt k a b
 
 -- a number shifted past another is joined to it
-pub ⊕-shifted : (a k b : ℕ) → b < 2 ^ k → a * 2 ^ k ⊕ b ≡ a * 2 ^ k + b
+pub ⊕_shifted : (a k b : ℕ) → b < 2 ^ k → a * 2 ^ k ⊕ b ≡ a * 2 ^ k + b
 unfolding ◌⊕◌
-⊕-shifted a k b = xor_shifted a k b
+⊕_shifted a k b = xor_shifted a k b

@@ -1,7 +1,7 @@
 -- The number of the record rises each turn, and a body lies within the room. That the two largest rooms have their length is a law, as to compute it goes too deep.
 use Rattle.std.proofs.Common.{ℕ, ◌-◌, ◌≤◌, sym, arith, rules}
 use lib.ListN.{length-replicate}
-use Rattle.record.proofs.Bodies.{body-within}
+use Rattle.record.proofs.Bodies.{body_within}
 use Rattle.lab.proofs.main.Statement.{statement}
 use Rattle.lab.proofs.main.Tie as tie
 
@@ -69,7 +69,7 @@ part-one-start : tie.Need-slice-bounds-one-start invariant-loop decreases-loop
 part-one-start c = search rules
 
 part-one-end : tie.Need-slice-bounds-one-end invariant-loop decreases-loop
-part-one-end c = body-within c.before.before.kind.given.1 c.before.before.before.before.before.before.read-record.ensures
+part-one-end c = body_within c.before.before.kind.given.1 c.before.before.before.before.before.before.read-record.ensures
 
 one-requires : tie.Need-one-requires invariant-loop decreases-loop
 one-requires c κs = search rules

@@ -1,6 +1,6 @@
 -- The number of the record rises each turn; a body lies within the room.
 use Prim.Native.Nat.{◌≤◌, ◌-◌}
-use Rattle.record.proofs.Bodies.{body-within}
+use Rattle.record.proofs.Bodies.{body_within}
 use borrow.Author.Rules.{rules}
 use Rattle.leaves.proofs.main.Statement.{statement}
 use Rattle.leaves.proofs.main.Tie as tie
@@ -33,7 +33,7 @@ part-one-start : tie.Need-slice-bounds-one-start invariant-loop decreases-loop
 part-one-start c = search rules
 
 part-one-end : tie.Need-slice-bounds-one-end invariant-loop decreases-loop
-part-one-end c = body-within c.before.kind.given.1 c.before.before.before.before.before.read-record.ensures
+part-one-end c = body_within c.before.kind.given.1 c.before.before.before.before.before.read-record.ensures
 
 one-requires : tie.Need-one-requires invariant-loop decreases-loop
 one-requires c κs = search rules

@@ -62,8 +62,8 @@ is-utf8-requires-3 c κs = search rules
 returns-4 : tie.Need-returns-4
 returns-4 c = search rules
 
-pub text-is-utf8-spec : {M : Type 1} → statement M
-text-is-utf8-spec =
+pub text_is_utf8_spec : {M : Type 1} → statement M
+text_is_utf8_spec =
     tie.close
     (tie.spec
     returns

@@ -115,8 +115,8 @@ loop-again c = search rules
 returns-2 : tie.Need-returns-2 invariant-loop decreases-loop
 returns-2 c = search rules
 
-pub texts-spec : {M : Type 1} → statement M
-texts-spec =
+pub texts_spec : {M : Type 1} → statement M
+texts_spec =
     tie.close
     (tie.spec
     invariant-loop

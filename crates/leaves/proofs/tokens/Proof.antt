@@ -55,8 +55,8 @@ loop-again c = search rules
 returns-2 : tie.Need-returns-2 invariant-loop decreases-loop
 returns-2 c = search rules
 
-pub tokens-spec : {M : Type 1} → statement M
-tokens-spec =
+pub tokens_spec : {M : Type 1} → statement M
+tokens_spec =
     tie.close
     (tie.spec
     invariant-loop

@@ -56,8 +56,8 @@ same-length-2 c = search rules
 returns-5 : tie.Need-returns-5
 returns-5 c = search rules
 
-pub read-record-spec : {M : Type 1} → statement M
-read-record-spec =
+pub read_record_spec : {M : Type 1} → statement M
+read_record_spec =
     tie.close
     (tie.spec
     slice-aggregate-read-full

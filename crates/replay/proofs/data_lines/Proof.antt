@@ -44,8 +44,8 @@ loop-again c = omega (arith, c.before.before.least.ensures, c.before.before.befo
 returns : tie.Need-returns invariant-loop decreases-loop
 returns c = tt
 
-pub data-lines-spec : {M : Type 1} → statement M
-data-lines-spec =
+pub data_lines_spec : {M : Type 1} → statement M
+data_lines_spec =
     tie.close
     (tie.spec
     invariant-loop

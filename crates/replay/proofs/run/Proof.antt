@@ -3,7 +3,7 @@ use Prim.Native.Nat.{◌≤◌, ◌-◌}
 use mathlib.Core.Path.{◌≡◌, ◌∙◌, refl}
 use lib.ListN.{length}
 use native.Mathlib.Omega.{arith}
-use Rattle.record.proofs.Bodies.{body-within}
+use Rattle.record.proofs.Bodies.{body_within}
 use Rattle.replay.proofs.run.Statement.{statement}
 use Rattle.replay.proofs.run.Tie as tie
 
@@ -94,7 +94,7 @@ part-one-start : tie.Need-slice-bounds-one-start invariant-loop decreases-loop
 part-one-start c = omega arith
 
 part-one-end : tie.Need-slice-bounds-one-end invariant-loop decreases-loop
-part-one-end c = body-within c.before.before.before.before.before.before.before.before.kind.given.1 c.before.before.before.before.before.before.before.before.before.before.before.before.read-record.ensures
+part-one-end c = body_within c.before.before.before.before.before.before.before.before.kind.given.1 c.before.before.before.before.before.before.before.before.before.before.before.before.read-record.ensures
 
 one-requires : tie.Need-one-requires invariant-loop decreases-loop
 one-requires c κs = tt

@@ -1,5 +1,5 @@
 -- Where all is in bounds the copied part lies in the reply room, and fits the other.
-use Rattle.engine.proofs.Apis.{said_in, reads-told}
+use Rattle.engine.proofs.Apis.{said_in, reads_told}
 use Rattle.engine.specs.Api.{reads}
 use Rattle.std.proofs.Common.{[], sym, ◌∙◌, arith}
 use Rattle.engine.proofs.api.read.Goals as goal
@@ -18,4 +18,4 @@ pub advanced-requires : goal.advanced-requires
 advanced-requires c = let h = said_in _ _ (sym (c.all_ok.ensures [] []) ∙ c.if-not-all_ok.false) in omega (arith, c.least-n.ensures, h.0.0, h.0.1)
 
 pub returns : goal.returns
-returns c = λ f t. reads-told _ _ _ (sym (c.all_ok.ensures f t) ∙ c.if-not-all_ok.false) c.least-n.ensures c.put.ensures c.advanced.ensures
+returns c = λ f t. reads_told _ _ _ (sym (c.all_ok.ensures f t) ∙ c.if-not-all_ok.false) c.least-n.ensures c.put.ensures c.advanced.ensures

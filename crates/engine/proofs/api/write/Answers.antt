@@ -1,11 +1,11 @@
 -- Where all is in bounds the bytes are fed.
-use Rattle.engine.proofs.Apis.{world-fit}
+use Rattle.engine.proofs.Apis.{world_fit}
 use Rattle.engine.specs.Api.{writes}
 use Rattle.std.proofs.Common.{sym, ◌∙◌}
 use Rattle.engine.proofs.api.write.Goals as goal
 
 pub feed-requires : goal.feed-requires
-feed-requires c = world-fit _ _ (sym (c.all_ok.ensures c.args.faults.now c.args.table.now) ∙ c.if-all_ok.true)
+feed-requires c = world_fit _ _ (sym (c.all_ok.ensures c.args.faults.now c.args.table.now) ∙ c.if-all_ok.true)
 
 pub returns-then-all_ok : goal.returns-then-all_ok
 unfolding writes

@@ -1,5 +1,5 @@
 -- A frame that asks for nothing is dropped, any other is performed.
-use Rattle.engine.proofs.Execs.{exec-bad, exec-run, exec-fits}
+use Rattle.engine.proofs.Execs.{exec_bad, exec_run, exec_fits}
 use Rattle.std.proofs.Common.{arith}
 use Rattle.engine.proofs.exec.exec.Goals as goal
 
@@ -25,10 +25,10 @@ pub emptied-requires : goal.emptied-requires
 emptied-requires c = tt
 
 pub returns-in_default : goal.returns-in_default
-returns-in_default c = exec-bad _ _ c.order_of.ensures c.in_default.is c.emptied.ensures
+returns-in_default c = exec_bad _ _ c.order_of.ensures c.in_default.is c.emptied.ensures
 
 pub perform-requires : goal.perform-requires
-perform-requires c = (exec-fits _ _ c.order_of.ensures c.in-Run.is c.requires.0, c.requires.1)
+perform-requires c = (exec_fits _ _ c.order_of.ensures c.in-Run.is c.requires.0, c.requires.1)
 
 pub shape_of-chip : goal.shape_of-chip
 shape_of-chip c = c.perform.auto.chip
@@ -43,4 +43,4 @@ pub shape_of-reply : goal.shape_of-reply
 shape_of-reply c = c.perform.auto.reply
 
 pub returns : goal.returns
-returns c = exec-run _ _ c.order_of.ensures c.in-Run.is c.perform.ensures
+returns c = exec_run _ _ c.order_of.ensures c.in-Run.is c.perform.ensures

@@ -1,5 +1,5 @@
 -- The command is run, then the header is laid before its data.
-use Rattle.engine.proofs.Execs.{perform-told}
+use Rattle.engine.proofs.Execs.{perform_told}
 use Rattle.std.proofs.Common.{refl, ◌∙◌, arith}
 use Rattle.engine.proofs.exec.perform.Goals as goal
 
@@ -37,4 +37,4 @@ pub shape_of-reply : goal.shape_of-reply
 shape_of-reply c = c.end.auto.reply ∙ c.runs-r.auto.reply
 
 pub returns : goal.returns
-returns c = perform-told _ _ _ _ _ c.requires.1 refl c.begun.ensures (c.runs-r.ensures _) (c.end.ensures _ _ _ _)
+returns c = perform_told _ _ _ _ _ c.requires.1 refl c.begun.ensures (c.runs-r.ensures _) (c.end.ensures _ _ _ _)

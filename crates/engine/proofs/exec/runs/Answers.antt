@@ -1,6 +1,6 @@
 -- The group that the number has runs the command; what a group is not lent stays as it was.
 use Rattle.engine.specs.declared.exec.Group.TheVariants.{Memory, Shell, Storage, Plain}
-use Rattle.engine.proofs.Execs.{runs-is, plain-told}
+use Rattle.engine.proofs.Execs.{runs_is, plain_told}
 use Rattle.std.proofs.Common.{refl}
 use Rattle.engine.proofs.exec.runs.Goals as goal
 
@@ -38,7 +38,7 @@ pub shape_of-reply-in-Memory : goal.shape_of-reply-in-Memory
 shape_of-reply-in-Memory c = c.memory.auto.reply
 
 pub returns-in-Memory : goal.returns-in-Memory
-returns-in-Memory c = λ q. runs-is _ _ _ _ Memory c.group_of.ensures c.in-Memory.is (c.memory.ensures q _ _)
+returns-in-Memory c = λ q. runs_is _ _ _ _ Memory c.group_of.ensures c.in-Memory.is (c.memory.ensures q _ _)
 
 pub shape_of-chip-in-Shell : goal.shape_of-chip-in-Shell
 shape_of-chip-in-Shell c = c.shell.auto.chip
@@ -50,7 +50,7 @@ pub shape_of-scratch-in-Shell : goal.shape_of-scratch-in-Shell
 shape_of-scratch-in-Shell c = c.shell.auto.scratch
 
 pub returns-in-Shell : goal.returns-in-Shell
-returns-in-Shell c = λ q. runs-is _ _ _ _ Shell c.group_of.ensures c.in-Shell.is (c.shell.ensures q _)
+returns-in-Shell c = λ q. runs_is _ _ _ _ Shell c.group_of.ensures c.in-Shell.is (c.shell.ensures q _)
 
 pub shape_of-chip-in-Storage : goal.shape_of-chip-in-Storage
 shape_of-chip-in-Storage c = c.stored.auto.chip
@@ -62,10 +62,10 @@ pub shape_of-reply-in-Storage : goal.shape_of-reply-in-Storage
 shape_of-reply-in-Storage c = c.stored.auto.reply
 
 pub returns-in-Storage : goal.returns-in-Storage
-returns-in-Storage c = λ q. runs-is _ _ _ _ Storage c.group_of.ensures c.in-Storage.is (c.stored.ensures _ q _)
+returns-in-Storage c = λ q. runs_is _ _ _ _ Storage c.group_of.ensures c.in-Storage.is (c.stored.ensures _ q _)
 
 pub shape_of-reply-in-Plain : goal.shape_of-reply-in-Plain
 shape_of-reply-in-Plain c = c.plain-ended.auto.reply
 
 pub returns-in-Plain : goal.returns-in-Plain
-returns-in-Plain c = λ q. runs-is _ _ _ _ Plain c.group_of.ensures c.in-Plain.is (plain-told _ _ _ c.plain-ended.ensures)
+returns-in-Plain c = λ q. runs_is _ _ _ _ Plain c.group_of.ensures c.in-Plain.is (plain_told _ _ _ c.plain-ended.ensures)

@@ -1,5 +1,5 @@
 -- The piece is what is wanted, or all that is there.
-use Rattle.engine.proofs.Feeds.{few, step-told}
+use Rattle.engine.proofs.Feeds.{few, step_told}
 use Rattle.std.proofs.Common.{arith}
 use Rattle.engine.proofs.feed.step.Goals as goal
 
@@ -43,4 +43,4 @@ pub shape_of-reply : goal.shape_of-reply
 shape_of-reply c = c.turn-t.auto.reply
 
 pub returns : goal.returns
-returns c = step-told _ _ _ _ c.least-k.ensures c.want.ensures c.turn-t.ensures
+returns c = step_told _ _ _ _ c.least-k.ensures c.want.ensures c.turn-t.ensures

@@ -1,11 +1,11 @@
 -- A frame's piece fits the request room, a stream's is no longer than what is left.
-use Rattle.engine.proofs.Fits.{want-stream, want-frame}
-use Rattle.engine.proofs.Feeds.{turn-frame, turn-stream}
+use Rattle.engine.proofs.Fits.{want_stream, want_frame}
+use Rattle.engine.proofs.Feeds.{turn_frame, turn_stream}
 use Rattle.std.proofs.Common.{◌∙◌, arith}
 use Rattle.engine.proofs.feed.turn.Goals as goal
 
 pub gather-requires : goal.gather-requires
-gather-requires c = (c.requires.0.mid.request, c.requires.0.frame.2, c.requires.0.mid.reply, omega (arith, want-frame c.args.e c.requires.0.frame c.if-e-eq0.true, c.requires.1))
+gather-requires c = (c.requires.0.mid.request, c.requires.0.frame.2, c.requires.0.mid.reply, omega (arith, want_frame c.args.e c.requires.0.frame c.if-e-eq0.true, c.requires.1))
 
 pub shape_of-request-then-e-eq0 : goal.shape_of-request-then-e-eq0
 shape_of-request-then-e-eq0 c = c.gather.auto.request
@@ -23,10 +23,10 @@ pub shape_of-reply-then-e-eq0 : goal.shape_of-reply-then-e-eq0
 shape_of-reply-then-e-eq0 c = c.gather.auto.reply
 
 pub returns-then-e-eq0 : goal.returns-then-e-eq0
-returns-then-e-eq0 c = turn-frame _ _ _ c.if-e-eq0.true c.gather.ensures
+returns-then-e-eq0 c = turn_frame _ _ _ c.if-e-eq0.true c.gather.ensures
 
 pub streamed-requires : goal.streamed-requires
-streamed-requires c = (c.requires.0.mid.reply, c.requires.0.mid.up, omega (arith, want-stream c.args.e c.if-e-eq0.false, c.requires.1))
+streamed-requires c = (c.requires.0.mid.reply, c.requires.0.mid.up, omega (arith, want_stream c.args.e c.if-e-eq0.false, c.requires.1))
 
 pub shape_of-chip : goal.shape_of-chip
 shape_of-chip c = c.streamed.auto.chip
@@ -38,4 +38,4 @@ pub shape_of-reply : goal.shape_of-reply
 shape_of-reply c = c.streamed.auto.reply
 
 pub returns : goal.returns
-returns c = c.streamed.ensures c.args.request.now c.args.scratch.now ∙ turn-stream _ _ _ c.if-e-eq0.false
+returns c = c.streamed.ensures c.args.request.now c.args.scratch.now ∙ turn_stream _ _ _ c.if-e-eq0.false

@@ -1,5 +1,5 @@
 -- Data, a header that is not whole, or one that is.
-use Rattle.engine.proofs.Frames.{fills-frame, fills-more, fills-head}
+use Rattle.engine.proofs.Frames.{fills_frame, fills_more, fills_head}
 use Rattle.engine.proofs.frame.filled.Goals as goal
 
 pub ripe-requires : goal.ripe-requires
@@ -18,10 +18,10 @@ pub shape_of-reply-then-e-ne0 : goal.shape_of-reply-then-e-ne0
 shape_of-reply-then-e-ne0 c = c.ripe.auto.reply
 
 pub returns-then-e-ne0 : goal.returns-then-e-ne0
-returns-then-e-ne0 c = fills-frame _ _ c.if-e-ne0.true c.ripe.ensures
+returns-then-e-ne0 c = fills_frame _ _ c.if-e-ne0.true c.ripe.ensures
 
 pub returns-then-e-lt16 : goal.returns-then-e-lt16
-returns-then-e-lt16 c = fills-more _ _ c.if-e-ne0.false c.if-e-lt16.true
+returns-then-e-lt16 c = fills_more _ _ c.if-e-ne0.false c.if-e-lt16.true
 
 pub headed-requires : goal.headed-requires
 headed-requires c = (c.requires.0, c.requires.2)
@@ -39,4 +39,4 @@ pub shape_of-reply : goal.shape_of-reply
 shape_of-reply c = c.headed.auto.reply
 
 pub returns : goal.returns
-returns c = fills-head _ _ c.if-e-ne0.false c.if-e-lt16.false c.headed.ensures
+returns c = fills_head _ _ c.if-e-ne0.false c.if-e-lt16.false c.headed.ensures

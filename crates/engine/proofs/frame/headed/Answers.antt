@@ -1,5 +1,5 @@
 -- What the header asks for is done; a frame that is taken fits the request room.
-use Rattle.engine.proofs.Frames.{heads-is, total-taken}
+use Rattle.engine.proofs.Frames.{heads_is, total_taken}
 use Rattle.engine.specs.declared.frame.Next.TheVariants.{Refused, Send, Total}
 use Rattle.std.proofs.Common.{refl, ◌∙◌}
 use Rattle.engine.proofs.frame.headed.Goals as goal
@@ -29,10 +29,10 @@ pub framed-requires : goal.framed-requires
 framed-requires c = tt
 
 pub ripe-requires : goal.ripe-requires
-ripe-requires c = (rw (c.framed.ensures, c.requires.0) (total-taken _ c.next_of.ensures c.in-Total.is).1, c.requires.1)
+ripe-requires c = (rw (c.framed.ensures, c.requires.0) (total_taken _ c.next_of.ensures c.in-Total.is).1, c.requires.1)
 
 pub returns-in-Refused : goal.returns-in-Refused
-returns-in-Refused c = heads-is _ _ Refused c.next_of.ensures c.in-Refused.is (rw c.emptied.ensures)
+returns-in-Refused c = heads_is _ _ Refused c.next_of.ensures c.in-Refused.is (rw c.emptied.ensures)
 
 pub shape_of-chip-in-Send : goal.shape_of-chip-in-Send
 shape_of-chip-in-Send c = c.begin.auto.chip
@@ -44,7 +44,7 @@ pub shape_of-reply-in-Send : goal.shape_of-reply-in-Send
 shape_of-reply-in-Send c = c.begin.auto.reply
 
 pub returns-in-Send : goal.returns-in-Send
-returns-in-Send c = heads-is _ _ (Send _) c.next_of.ensures c.in-Send.is (c.begin.ensures _ _ ∙ rw c.emptied-in-Send.ensures)
+returns-in-Send c = heads_is _ _ (Send _) c.next_of.ensures c.in-Send.is (c.begin.ensures _ _ ∙ rw c.emptied-in-Send.ensures)
 
 pub shape_of-chip-in-Total : goal.shape_of-chip-in-Total
 shape_of-chip-in-Total c = c.ripe.auto.chip
@@ -59,4 +59,4 @@ pub shape_of-reply-in-Total : goal.shape_of-reply-in-Total
 shape_of-reply-in-Total c = c.ripe.auto.reply
 
 pub returns-in-Total : goal.returns-in-Total
-returns-in-Total c = heads-is _ _ (Total _) c.next_of.ensures c.in-Total.is (c.ripe.ensures ∙ rw c.framed.ensures)
+returns-in-Total c = heads_is _ _ (Total _) c.next_of.ensures c.in-Total.is (c.ripe.ensures ∙ rw c.framed.ensures)

@@ -1,9 +1,9 @@
 -- Not yet whole, or executed.
-use Rattle.engine.proofs.Frames.{ripe-not, ripe-whole}
+use Rattle.engine.proofs.Frames.{ripe_not, ripe_whole}
 use Rattle.engine.proofs.frame.ripe.Goals as goal
 
 pub returns-then-e : goal.returns-then-e
-returns-then-e c = ripe-not _ _ c.if-e.true
+returns-then-e c = ripe_not _ _ c.if-e.true
 
 pub exec-requires : goal.exec-requires
 exec-requires c = (c.requires.0, c.requires.1)
@@ -21,4 +21,4 @@ pub shape_of-reply : goal.shape_of-reply
 shape_of-reply c = c.exec.auto.reply
 
 pub returns : goal.returns
-returns c = ripe-whole _ _ c.if-e.false c.exec.ensures
+returns c = ripe_whole _ _ c.if-e.false c.exec.ensures

@@ -1,10 +1,10 @@
 -- One case for each line; the window of `get_bootdevice` lies within scratch, as it was cut to it.
 use Rattle.engine.proofs.Commands.{laid_none}
-use Rattle.engine.proofs.Runnings.{window-held}
+use Rattle.engine.proofs.Runnings.{window_held}
 use Rattle.engine.proofs.running.run_asked.Goals as goal
 
 pub run_boot-requires : goal.run_boot-requires
-run_boot-requires c = window-held _ _ _ _ c.window_of-window-in-Boot.ensures
+run_boot-requires c = window_held _ _ _ _ c.window_of-window-in-Boot.ensures
 
 pub returns-in-Bad : goal.returns-in-Bad
 returns-in-Bad c = λ q p. rw c.in-Bad.is

@@ -42,8 +42,8 @@ same-length-9 c = search rules
 returns : tie.Need-returns
 returns c = search rules
 
-pub begin-spec : {M : Type 1} → statement M
-begin-spec =
+pub begin_spec : {M : Type 1} → statement M
+begin_spec =
     tie.close
     (tie.spec
     begun-requires

@@ -54,8 +54,8 @@ same-length-6 c = c.before.before.before.before.before.before.before.before.befo
 returns : tie.Need-returns
 returns c = search rules
 
-pub stepped-spec : {M : Type 1} → statement M
-stepped-spec =
+pub stepped_spec : {M : Type 1} → statement M
+stepped_spec =
     tie.close
     (tie.spec
     faults-of-requires

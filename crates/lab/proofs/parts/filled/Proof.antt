@@ -33,8 +33,8 @@ same_length c = search rules
 returns : tie.Need-returns invariant-loop decreases-loop
 returns c = search rules
 
-pub filled-spec : {M : Type 1} → statement M
-filled-spec =
+pub filled_spec : {M : Type 1} → statement M
+filled_spec =
     tie.close
     (tie.spec
     invariant-loop

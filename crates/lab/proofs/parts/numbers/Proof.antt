@@ -45,8 +45,8 @@ same-length-2 c = search rules
 returns-2 : tie.Need-returns-2 invariant-loop decreases-loop
 returns-2 c = search rules
 
-pub numbers-spec : {M : Type 1} → statement M
-numbers-spec =
+pub numbers_spec : {M : Type 1} → statement M
+numbers_spec =
     tie.close
     (tie.spec
     invariant-loop

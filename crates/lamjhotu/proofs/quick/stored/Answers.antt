@@ -1,11 +1,11 @@
 -- No target, or the write to it.
 use native.Mathlib.Omega.{arith}
 use Rattle.lamjhotu.specs.State.{update_at}
-use Rattle.lamjhotu.proofs.Pieces.{stored-none, stored_there}
+use Rattle.lamjhotu.proofs.Pieces.{stored_none, stored_there}
 use Rattle.lamjhotu.proofs.quick.stored.Goals as goal
 
 pub returns-then-not-set_at : goal.returns-then-not-set_at
-returns-then-not-set_at c = stored-none _ _ _ _ _ c.store_at-store.ensures c.set_at.ensures (c.if-not-set_at.true)
+returns-then-not-set_at c = stored_none _ _ _ _ _ c.store_at-store.ensures c.set_at.ensures (c.if-not-set_at.true)
 
 pub overflow_add-at : goal.overflow_add-at
 unfolding update_at

@@ -3,19 +3,19 @@ use mathlib.Core.Path.{refl, sym, ◌∙◌}
 use native.Mathlib.Omega.{arith}
 use Prim.Native.Nat.{◌+◌}
 use lib.ListN.{length}
-use Rattle.storage.proofs.Chips.{able-fits, fetch-fails, fetch-part}
+use Rattle.storage.proofs.Chips.{able_fits, fetch_fails, fetch_part}
 use Rattle.storage.proofs.chip.fetch.Goals as goal
 
 pub returns-then-not-may : goal.returns-then-not-may
-returns-then-not-may c = fetch-fails c.args.faults.now c.args.s c.args.chip.now c.args.at c.args.room.now c.take_call-next.ensures (sym c.may.ensures ∙ c.if-not-may.true)
+returns-then-not-may c = fetch_fails c.args.faults.now c.args.s c.args.chip.now c.args.at c.args.room.now c.take_call-next.ensures (sym c.may.ensures ∙ c.if-not-may.true)
 
 pub overflow_add-end : goal.overflow_add-end
-overflow_add-end c = omega (arith, able-fits c.args.faults.now c.args.s c.args.chip.now c.args.at (length c.args.room.now) (sym c.may.ensures ∙ c.if-not-may.false))
+overflow_add-end c = omega (arith, able_fits c.args.faults.now c.args.s c.args.chip.now c.args.at (length c.args.room.now) (sym c.may.ensures ∙ c.if-not-may.false))
 
 pub slice_bounds-put-end : goal.slice_bounds-put-end
-slice_bounds-put-end c = omega (arith, able-fits c.args.faults.now c.args.s c.args.chip.now c.args.at (length c.args.room.now) (sym c.may.ensures ∙ c.if-not-may.false))
+slice_bounds-put-end c = omega (arith, able_fits c.args.faults.now c.args.s c.args.chip.now c.args.at (length c.args.room.now) (sym c.may.ensures ∙ c.if-not-may.false))
 
 pub returns : goal.returns
 returns c =
-    fetch-part c.args.faults.now c.args.s c.args.chip.now c.args.at c.args.room.now c.take_call-next.ensures (c.args.at + length c.args.room.now)
+    fetch_part c.args.faults.now c.args.s c.args.chip.now c.args.at c.args.room.now c.take_call-next.ensures (c.args.at + length c.args.room.now)
     (sym c.may.ensures ∙ c.if-not-may.false) refl c.put.ensures

@@ -8,9 +8,9 @@ use lib.ListN.{length}
 use Rattle.storage.specs.Chip.{able}
 use Rattle.storage.proofs.chip.may.Goals as goal
 
-not-cond : (b : Bool) → not b ≡ cond b false true
-not-cond true = refl
-not-cond false = refl
+not_cond : (b : Bool) → not b ≡ cond b false true
+not_cond true = refl
+not_cond false = refl
 
 pub returns-then-size-n : goal.returns-then-size-n
 unfolding able
@@ -22,4 +22,4 @@ returns-then-size-n-2 c = simp (lt-leb (c.args.at + c.args.n) (length c.args.chi
 
 pub returns : goal.returns
 unfolding able
-returns c = simp (le-leb (c.args.at + c.args.n) (length c.args.chip.now) (omega arith), ← c.fails.ensures) (not-cond c.fails.result)
+returns c = simp (le-leb (c.args.at + c.args.n) (length c.args.chip.now) (omega arith), ← c.fails.ensures) (not_cond c.fails.result)

@@ -4,7 +4,7 @@ use native.Mathlib.Omega.{arith}
 use borrow.Author.Tests.{not-true, not-false}
 use Rattle.storage.specs.World.{lent, dev}
 use lib.Seq.{length-take-le}
-use Rattle.storage.proofs.NandMoves.{read-unflushed, read_none, read_told}
+use Rattle.storage.proofs.NandMoves.{read_unflushed, read_none, read_told}
 use Rattle.storage.proofs.nand.read.Goals as goal
 
 pub returns-then-not-f : goal.returns-then-not-f
@@ -12,7 +12,7 @@ returns-then-not-f c =
     let z = c.args in
     let l = lent z.faults.now z.marks.now in
     let d = dev z.s z.chip.now z.buffer.now in
-    read-unflushed l z.offset z.room.now d c.flush_page-f.ensures (not-true _ c.if-not-f.true)
+    read_unflushed l z.offset z.room.now d c.flush_page-f.ensures (not-true _ c.if-not-f.true)
 
 pub returns-then-n-eq0 : goal.returns-then-n-eq0
 returns-then-n-eq0 c =

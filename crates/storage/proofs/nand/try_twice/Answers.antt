@@ -1,6 +1,6 @@
 -- A try that succeeds stands; after a failure a second one, on a record of the same shape.
 use Rattle.storage.specs.World.{lent, dev}
-use Rattle.storage.proofs.NandKeeps.{sound-as, attempt-shape}
+use Rattle.storage.proofs.NandKeeps.{sound_as, attempt_shape}
 use Rattle.storage.proofs.NandSteps.{once, twice}
 use Rattle.storage.proofs.nand.try_twice.Goals as goal
 
@@ -16,7 +16,7 @@ try_flush-requires c =
     let z = c.args in
     let l = lent z.faults.now z.marks.now in
     let d = dev z.s z.chip.now z.buffer.now in
-    sound-as (attempt-shape l d c.try_flush-a.ensures) c.requires
+    sound_as (attempt_shape l d c.try_flush-a.ensures) c.requires
 
 pub returns : goal.returns
 returns c =

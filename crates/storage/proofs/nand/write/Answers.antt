@@ -3,7 +3,7 @@ use native.Mathlib.Omega.{arith}
 use Rattle.storage.specs.World.{lent, dev}
 use Rattle.storage.specs.Nand.{loads, stays}
 use Rattle.storage.proofs.Fold.{no_less}
-use Rattle.storage.proofs.NandMoves.{written-past, written-told}
+use Rattle.storage.proofs.NandMoves.{written_past, written_told}
 use Rattle.storage.proofs.nand.write.Goals as goal
 
 pub returns-then-s-n : goal.returns-then-s-n
@@ -11,14 +11,14 @@ returns-then-s-n c =
     let z = c.args in
     let l = lent z.faults.now z.marks.now in
     let d = dev z.s z.chip.now z.buffer.now in
-    written-past l z.offset z.bytes.now d (omega arith)
+    written_past l z.offset z.bytes.now d (omega arith)
 
 pub returns-then-s-n-2 : goal.returns-then-s-n-2
 returns-then-s-n-2 c =
     let z = c.args in
     let l = lent z.faults.now z.marks.now in
     let d = dev z.s z.chip.now z.buffer.now in
-    written-past l z.offset z.bytes.now d (omega arith)
+    written_past l z.offset z.bytes.now d (omega arith)
 
 pub overflow_sub-count : goal.overflow_sub-count
 overflow_sub-count c =
@@ -32,4 +32,4 @@ returns c =
     let z = c.args in
     let l = lent z.faults.now z.marks.now in
     let d = dev z.s z.chip.now z.buffer.now in
-    written-told l z.offset z.bytes.now d (omega arith) c.write_all-r.ensures
+    written_told l z.offset z.bytes.now d (omega arith) c.write_all-r.ensures

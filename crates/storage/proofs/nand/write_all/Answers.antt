@@ -11,16 +11,16 @@ use lib.ListN.{take, drop}
 use Rattle.storage.specs.declared.types.Shape.{Shape}
 use Rattle.storage.specs.Fold.{run}
 use Rattle.storage.specs.Nand.{loads, stays}
-use Rattle.storage.proofs.Fold.{piece-failed, piece-went, finished}
-use Rattle.storage.proofs.NandKeeps.{sound-as, sound-with, writes-shape}
-use Rattle.storage.proofs.NandMoves.{piece-length, piece-some, piece-within, piece-ends}
+use Rattle.storage.proofs.Fold.{piece_failed, piece_went, finished}
+use Rattle.storage.proofs.NandKeeps.{sound_as, sound_with, writes_shape}
+use Rattle.storage.proofs.NandMoves.{piece_length, piece_some, piece_within, piece_ends}
 use Rattle.storage.proofs.nand.write_all.Goals as goal
 
 pub loop-done-init : goal.loop-done-init
 loop-done-init c = (search rules, refl, refl, refl, rw add-zero)
 
 pub piece_len-requires : goal.piece_len-requires
-piece_len-requires c = c.requires.0.shaped.page-ok
+piece_len-requires c = c.requires.0.shaped.page_ok_lem
 
 pub piece-p-requires : goal.piece-p-requires
 piece-p-requires c =
@@ -28,11 +28,11 @@ piece-p-requires c =
     let w = c.loop-done in
     let r = c.requires in
     let n = c.piece_len in (
-      sound-as w.invariant.3 (sound-with w.invariant.2 r.0),
+      sound_as w.invariant.3 (sound_with w.invariant.2 r.0),
       ap (λ (h : Shape). h.page) (sym w.invariant.3),
-      piece-some z.s.shape.page (z.offset + w.done) w.done n.result z.bytes.now r.0.shaped.page-some n.ensures c.loop-done-test.true,
-      piece-within z.s.shape.page (z.offset + w.done) w.done n.result z.bytes.now r.0.shaped.page-some n.ensures,
-      rw (piece-length z.s.shape.page (z.offset + w.done) w.done n.result z.bytes.now r.0.shaped.page-some n.ensures) (omega (arith, r.1, n.ensures)),
+      piece_some z.s.shape.page (z.offset + w.done) w.done n.result z.bytes.now r.0.shaped.page_some n.ensures c.loop-done-test.true,
+      piece_within z.s.shape.page (z.offset + w.done) w.done n.result z.bytes.now r.0.shaped.page_some n.ensures,
+      rw (piece_length z.s.shape.page (z.offset + w.done) w.done n.result z.bytes.now r.0.shaped.page_some n.ensures) (omega (arith, r.1, n.ensures)),
     )
 
 pub returns-then-not-p : goal.returns-then-not-p
@@ -41,12 +41,12 @@ returns-then-not-p c =
     let w = c.loop-done in
     let l = lent z.faults.now z.marks.now in
     let e = dev w.store w.chip w.buffer in
-    piece-failed z.s.shape.page (loads l z.s.shape.page) stays z.bytes.now w.done (w.done + c.piece_len.result) z.offset e (omega arith) c.piece-p.ensures (not-true _ c.if-not-p.true) ∙ w.invariant.4
+    piece_failed z.s.shape.page (loads l z.s.shape.page) stays z.bytes.now w.done (w.done + c.piece_len.result) z.offset e (omega arith) c.piece-p.ensures (not-true _ c.if-not-p.true) ∙ w.invariant.4
 
 pub loop-done-smaller : goal.loop-done-smaller
 loop-done-smaller c =
     let w = c.loop-done in
-    omega (arith, c.piece_len.ensures, c.loop-done-test.true, w.invariant.0, mod-lt (c.args.offset + w.done) c.requires.0.shaped.page-some)
+    omega (arith, c.piece_len.ensures, c.loop-done-test.true, w.invariant.0, mod-lt (c.args.offset + w.done) c.requires.0.shaped.page_some)
 
 pub loop-done-preserved : goal.loop-done-preserved
 loop-done-preserved c =
@@ -56,11 +56,11 @@ loop-done-preserved c =
     let n = c.piece_len in
     let l = lent z.faults.now z.marks.now in
     let e = dev w.store w.chip w.buffer in (
-      piece-ends z.s.shape.page (z.offset + w.done) w.done n.result z.bytes.now r.0.shaped.page-some n.ensures w.invariant.0,
+      piece_ends z.s.shape.page (z.offset + w.done) w.done n.result z.bytes.now r.0.shaped.page_some n.ensures w.invariant.0,
       omega arith,
       omega arith,
-      writes-shape l e z.s.shape.page (take (w.done + n.result - w.done) (drop w.done z.bytes.now)) (z.offset + w.done) c.piece-p.ensures ∙ w.invariant.3,
-      piece-went z.s.shape.page (loads l z.s.shape.page) stays z.bytes.now w.done (w.done + n.result) z.offset e (omega arith) c.piece-p.ensures (piece-ends z.s.shape.page (z.offset + w.done) w.done n.result z.bytes.now r.0.shaped.page-some n.ensures w.invariant.0) (not-false _ c.if-not-p.false) ∙ w.invariant.4,
+      writes_shape l e z.s.shape.page (take (w.done + n.result - w.done) (drop w.done z.bytes.now)) (z.offset + w.done) c.piece-p.ensures ∙ w.invariant.3,
+      piece_went z.s.shape.page (loads l z.s.shape.page) stays z.bytes.now w.done (w.done + n.result) z.offset e (omega arith) c.piece-p.ensures (piece_ends z.s.shape.page (z.offset + w.done) w.done n.result z.bytes.now r.0.shaped.page_some n.ensures w.invariant.0) (not-false _ c.if-not-p.false) ∙ w.invariant.4,
     )
 
 pub returns : goal.returns

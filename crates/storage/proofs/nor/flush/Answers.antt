@@ -2,14 +2,14 @@
 use mathlib.Core.Path.{sym}
 use borrow.Author.Tests.{not-true, not-false}
 use lib.Seq.{length-take-le}
-use Rattle.storage.proofs.Nors.{flush-free, flush-unerased, flush-unwritten, flush-done}
+use Rattle.storage.proofs.Nors.{flush_free, flush_unerased, flush_unwritten, flush_done}
 use Rattle.storage.proofs.nor.flush.Goals as goal
 
 pub returns-then-not-s : goal.returns-then-not-s
-returns-then-not-s c = flush-free _ _ (not-true _ c.if-not-s.true)
+returns-then-not-s c = flush_free _ _ (not-true _ c.if-not-s.true)
 
 pub returns-then-not-e : goal.returns-then-not-e
-returns-then-not-e c = flush-unerased _ _ (search not-false) (c.erase_sector-e.ensures c.args.buffer.now) (search not-true)
+returns-then-not-e c = flush_unerased _ _ (search not-false) (c.erase_sector-e.ensures c.args.buffer.now) (search not-true)
 
 pub slice_bounds-write_bytes-end : goal.slice_bounds-write_bytes-end
 slice_bounds-write_bytes-end c = sym (length-take-le 4096 c.args.buffer.now c.requires)
@@ -17,9 +17,9 @@ slice_bounds-write_bytes-end c = sym (length-take-le 4096 c.args.buffer.now c.re
 pub returns-then-not-w : goal.returns-then-not-w
 returns-then-not-w c =
     let z = c.args in
-    flush-unwritten _ _ (search not-false) (c.erase_sector-e.ensures z.buffer.now) (search not-false) (c.write_bytes-w.ensures z.buffer.now) (search not-true)
+    flush_unwritten _ _ (search not-false) (c.erase_sector-e.ensures z.buffer.now) (search not-false) (c.write_bytes-w.ensures z.buffer.now) (search not-true)
 
 pub returns : goal.returns
 returns c =
     let z = c.args in
-    flush-done _ _ (search not-false) (c.erase_sector-e.ensures z.buffer.now) (search not-false) (c.write_bytes-w.ensures z.buffer.now) (search not-false)
+    flush_done _ _ (search not-false) (c.erase_sector-e.ensures z.buffer.now) (search not-false) (c.write_bytes-w.ensures z.buffer.now) (search not-false)

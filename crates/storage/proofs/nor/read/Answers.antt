@@ -3,11 +3,11 @@ use mathlib.Core.Path.{sym}
 use native.Mathlib.Omega.{arith}
 use borrow.Author.Tests.{not-true, not-false}
 use lib.Seq.{length-take-le}
-use Rattle.storage.proofs.Nors.{read-unflushed, read_none, read_told}
+use Rattle.storage.proofs.Nors.{read_unflushed, read_none, read_told}
 use Rattle.storage.proofs.nor.read.Goals as goal
 
 pub returns-then-not-f : goal.returns-then-not-f
-returns-then-not-f c = read-unflushed _ _ _ _ c.flush-f.ensures (search not-true)
+returns-then-not-f c = read_unflushed _ _ _ _ c.flush-f.ensures (search not-true)
 
 pub returns-then-n-eq0 : goal.returns-then-n-eq0
 returns-then-n-eq0 c = read_none _ _ _ _ c.flush-f.ensures (search not-false) _ c.read_len-n.ensures c.if-n-eq0.true

@@ -1,4 +1,4 @@
--- The invariant: what is left, from here on, gives what all the bytes gave from the start. A turn is one piece, by `piece-went`; a failure stands, by `piece-failed`.
+-- The invariant: what is left, from here on, gives what all the bytes gave from the start. A turn is one piece, by `piece_went`; a failure stands, by `piece_failed`.
 use lib.ListN.{length, drop}
 use Rattle.storage.specs.World.{dev}
 use Rattle.storage.specs.Fold.{run, writes}

@@ -6,9 +6,9 @@ use Rattle.storage.proofs.open.chip_size.Goals as goal
 pub overflow_mul-result : goal.overflow_mul-result
 overflow_mul-result c =
     let a = c.args in
-    omega (arith, (geometry a.page a.pages a.blocks c.requires).block-most)
+    omega (arith, (geometry a.page a.pages a.blocks c.requires).block_most)
 
 pub overflow_mul-result-2 : goal.overflow_mul-result-2
 overflow_mul-result-2 c =
     let a = c.args in
-    omega (arith, (geometry a.page a.pages a.blocks c.requires).chip-most)
+    omega (arith, (geometry a.page a.pages a.blocks c.requires).chip_most)

@@ -17,7 +17,7 @@ returns-then-not-geometry_ok c = rw (le-leb c.args.s.shape.capacity 2147483648 c
 pub held_ok-requires-in-Nand : goal.held_ok-requires-in-Nand
 held_ok-requires-in-Nand c =
     let h = c.args.s.shape in
-    omega (arith, (geometry h.page h.pages h.blocks (sym c.geometry_ok.ensures ∙ c.if-not-geometry_ok.false)).page-low)
+    omega (arith, (geometry h.page h.pages h.blocks (sym c.geometry_ok.ensures ∙ c.if-not-geometry_ok.false)).page_low)
 
 pub returns-in-Nor : goal.returns-in-Nor
 unfolding in_bounds

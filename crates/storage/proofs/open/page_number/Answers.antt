@@ -2,15 +2,15 @@
 use mathlib.Core.Path.{ap, ◌∙◌}
 use Prim.Native.Nat.{ℕ, ◌/◌, ◌^◌}
 use native.Mathlib.Omega.{arith}
-use Rattle.storage.proofs.Powers.{shift-page}
+use Rattle.storage.proofs.Powers.{shift_page}
 use Rattle.storage.proofs.open.page_number.Goals as goal
 
 pub overflow_shr-result : goal.overflow_shr-result
 overflow_shr-result c =
     let a = c.args in
-    omega (arith, c.page_shift.ensures, (shift-page a.page c.requires).1)
+    omega (arith, c.page_shift.ensures, (shift_page a.page c.requires).1)
 
 pub returns : goal.returns
 returns c =
     let a = c.args in
-    ap (λ (n : ℕ). a.at / n) (ap (λ (k : ℕ). 2 ^ k) c.page_shift.ensures ∙ (shift-page a.page c.requires).0)
+    ap (λ (n : ℕ). a.at / n) (ap (λ (k : ℕ). 2 ^ k) c.page_shift.ensures ∙ (shift_page a.page c.requires).0)

@@ -1,7 +1,7 @@
 -- The buffer, then by the kind the chip and the marks.
 use borrow.Author.Tests.{lt-leb, le-leb}
 use Rattle.storage.specs.Open.{parts_fit}
-use Rattle.storage.proofs.Opens.{bounds-nand}
+use Rattle.storage.proofs.Opens.{bounds_nand}
 use Rattle.storage.proofs.open.parts_fit.Goals as goal
 
 pub returns-then-buffer-lt4096 : goal.returns-then-buffer-lt4096
@@ -9,7 +9,7 @@ unfolding parts_fit
 returns-then-buffer-lt4096 c = rw (lt-leb 4096 c.args.buffer c.if-buffer-lt4096.true)
 
 pub chip_ok-requires : goal.chip_ok-requires
-chip_ok-requires c = bounds-nand c.args.s c.requires c.in-Nand.is
+chip_ok-requires c = bounds_nand c.args.s c.requires c.in-Nand.is
 
 pub returns-in-Nor : goal.returns-in-Nor
 unfolding parts_fit

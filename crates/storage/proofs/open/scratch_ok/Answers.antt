@@ -3,7 +3,7 @@ use native.Mathlib.Omega.{arith}
 use Prim.Native.Nat.{◌+◌}
 use borrow.Author.Tests.{lt-leb}
 use Rattle.storage.specs.Open.{scratch_ok}
-use Rattle.storage.proofs.Opens.{sum-tested}
+use Rattle.storage.proofs.Opens.{sum_tested}
 use Rattle.storage.proofs.open.scratch_ok.Goals as goal
 
 pub returns-then-n-gt4294967296 : goal.returns-then-n-gt4294967296
@@ -16,4 +16,4 @@ pub returns : goal.returns
 unfolding scratch_ok
 returns c =
     let a = c.args in
-    sum-tested a.base a.n 4294967296 (omega arith)
+    sum_tested a.base a.n 4294967296 (omega arith)

@@ -2,7 +2,7 @@
 -- them make. A value that does not fit never comes to fit again, so the code may stop there.
 use mathlib.Core.Path.{refl, sym, ◌∙◌}
 use native.Mathlib.Omega.{arith}
-use Rattle.text.proofs.Digits.{over, next, no_digit, ended, too_large, small-enough}
+use Rattle.text.proofs.Digits.{over, next, no_digit, ended, too_large, small_enough}
 use Rattle.text.proofs.number.all_digits.Goals as goal
 
 pub loop-i-init : goal.loop-i-init
@@ -22,16 +22,16 @@ returns-then-v-d c =
     ∙ c.loop-i.invariant.1
 
 pub overflow_mul-v : goal.overflow_mul-v
-overflow_mul-v c = omega (arith, small-enough c.args.base c.requires c.loop-i.v c.digit_of-d.result c.if-v-d.false (omega arith))
+overflow_mul-v c = omega (arith, small_enough c.args.base c.requires c.loop-i.v c.digit_of-d.result c.if-v-d.false (omega arith))
 
 pub overflow_add-v : goal.overflow_add-v
-overflow_add-v c = omega (arith, small-enough c.args.base c.requires c.loop-i.v c.digit_of-d.result c.if-v-d.false (omega arith))
+overflow_add-v c = omega (arith, small_enough c.args.base c.requires c.loop-i.v c.digit_of-d.result c.if-v-d.false (omega arith))
 
 -- a digit is taken, and what it makes still fits
 pub loop-i-preserved : goal.loop-i-preserved
 loop-i-preserved c =
     let a = c.args in (
-      small-enough a.base c.requires c.loop-i.v c.digit_of-d.result c.if-v-d.false (omega arith),
+      small_enough a.base c.requires c.loop-i.v c.digit_of-d.result c.if-v-d.false (omega arith),
       next a.base a.s.now c.loop-i.i c.loop-i.v c.digit_of-d.ensures (omega arith) (omega arith) ∙ c.loop-i.invariant.1,
     )
 

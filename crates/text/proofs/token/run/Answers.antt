@@ -3,7 +3,7 @@ use mathlib.Core.Path.{sym}
 use Rattle.std.specs.Prelude.{◌-◌, drop}
 use native.Mathlib.Omega.{arith}
 use lib.ListN.{length-drop}
-use Rattle.text.proofs.Tokens.{past, cut, until-length}
+use Rattle.text.proofs.Tokens.{past, cut, until_length}
 use Rattle.text.proofs.token.run.Goals as goal
 
 pub returns-then-at-s : goal.returns-then-at-s
@@ -14,7 +14,7 @@ returns-then-at-s c =
 pub slice_bounds-result-end-2 : goal.slice_bounds-result-end-2
 slice_bounds-result-end-2 c =
     let a = c.args in
-    omega (arith, until-length a.stop (drop a.at a.s.now), length-drop a.at a.s.now)
+    omega (arith, until_length a.stop (drop a.at a.s.now), length-drop a.at a.s.now)
 
 pub returns : goal.returns
 returns c =

@@ -3,7 +3,7 @@
 use native.Mathlib.Omega.{arith}
 use Rattle.std.specs.Prelude.{drop}
 use lib.ListN.{length-drop}
-use Rattle.text.proofs.Grammar.{char_len-le, char_len-four}
+use Rattle.text.proofs.Grammar.{char_len_le, char_len_four}
 use Rattle.text.proofs.Trimming.{blank}
 use Rattle.text.proofs.trim.blank_len.Goals as goal
 
@@ -11,7 +11,7 @@ pub code_point-requires : goal.code_point-requires
 code_point-requires c =
     let a = c.args in
     let l = drop a.at a.s.now in
-    omega (arith, char_len-le l, char_len-four l, length-drop a.at a.s.now)
+    omega (arith, char_len_le l, char_len_four l, length-drop a.at a.s.now)
 
 pub returns-then-n-eq0 : goal.returns-then-n-eq0
 returns-then-n-eq0 c = search blank

@@ -2,8 +2,8 @@
 -- zeros where the list has ended.
 use Rattle.std.proofs.Common.{ℕ, ◌+◌, ◌*◌, List, take, ap, ◌∙◌, ap₂}
 use Rattle.wire.specs.Bytes.{le, word_at}
-use Rattle.wire.proofs.Words.{past, rest, eight-short, eight-at}
-use Rattle.wire.proofs.Words.{past, eight-short, eight-at}
+use Rattle.wire.proofs.Words.{past, rest, eight_short, eight_at}
+use Rattle.wire.proofs.Words.{past, eight_short, eight_at}
 use Rattle.wire.proofs.bytes.u64_at.Goals as goal
 
 pub returns-then-s-at : goal.returns-then-s-at
@@ -13,7 +13,7 @@ pub returns-then-s-at-lt4 : goal.returns-then-s-at-lt4
 unfolding word_at
 returns-then-s-at-lt4 c =
     c.front-low.ensures.0 ∙ ap (λ (l : List ℕ). le (take 4 l)) (rest c.args.s.now c.args.at)
-    ∙ eight-short c.args.s.now c.args.at c.if-s-at-lt4.true
+    ∙ eight_short c.args.s.now c.args.at c.if-s-at-lt4.true
 
 pub returns : goal.returns
 unfolding word_at
@@ -21,4 +21,4 @@ returns c =
     ap₂ (λ (x y : ℕ). x + 0x1_0000_0000 * y)
     (c.front-low.ensures.0 ∙ ap (λ (l : List ℕ). le (take 4 l)) (rest c.args.s.now c.args.at))
     (c.front.ensures.0 ∙ ap (λ (l : List ℕ). le (take 4 l)) (rest c.args.s.now (c.args.at + 4)))
-    ∙ eight-at c.args.s.now c.args.at
+    ∙ eight_at c.args.s.now c.args.at

@@ -2,7 +2,7 @@
 -- multiple of eight.
 use Rattle.std.proofs.Common.{◌≡◌, ℕ, ◌+◌, ◌*◌, ◌/◌, length, drop, refl, ap, ◌∙◌, arith}
 use Rattle.wire.specs.Crc.{◌⊕◌, shifts, crc_from}
-use Rattle.wire.proofs.Slices.{crc-turn}
+use Rattle.wire.proofs.Slices.{crc_turn}
 use Rattle.wire.proofs.crc.by_words.Goals as goal
 
 pub loop-i-init : goal.loop-i-init
@@ -18,7 +18,7 @@ loop-i-preserved c = (
   omega arith,
   omega arith,
   ap (λ (x : ℕ). crc_from x (drop (c.loop-i.i + 8) c.args.s.now)) (c.shifted-r.ensures ∙ ap (λ (x : ℕ). shifts 64 (c.loop-i.r ⊕ x)) c.word.ensures)
-      ∙ crc-turn c.args.s.now c.loop-i.i c.loop-i.r (omega arith) (λ k. (c.type_inv.s k).fits) ∙ c.loop-i.invariant.3,
+      ∙ crc_turn c.args.s.now c.loop-i.i c.loop-i.r (omega arith) (λ k. (c.type_inv.s k).fits) ∙ c.loop-i.invariant.3,
 )
 
 pub returns : goal.returns

@@ -1,7 +1,7 @@
 -- After j bytes the sum so far and what is left of the four give the same shifts.
 use Rattle.std.proofs.Common.{ℕ, ◌+◌, ◌-◌, ◌*◌, ◌/◌, ◌%◌, List, get_or, ap, ◌∙◌, add-zero, arith}
 use Rattle.wire.specs.Crc.{◌⊕◌, shifts}
-use Rattle.wire.proofs.Slices.{rows-turn, further, all_in}
+use Rattle.wire.proofs.Slices.{rows_turn, further, all_in}
 use Rattle.wire.proofs.crc.rows.Goals as goal
 
 pub loop-j-init : goal.loop-j-init
@@ -14,7 +14,7 @@ loop-j-preserved c = (
   omega arith,
   further c.args.x c.loop-j.y c.loop-j.j c.loop-j.invariant.1,
   ap (λ (l : List ℕ). (c.loop-j.r ⊕ get_or l ((c.args.up + c.loop-j.j) * 256 + c.loop-j.y % 256) 0) ⊕ shifts (64 - 8 * (c.args.up + (c.loop-j.j + 1))) (c.loop-j.y / 256)) c.requires.0
-      ∙ rows-turn c.loop-j.r c.loop-j.y c.args.up c.loop-j.j _ c.requires.1 c.loop-j-test.true c.loop-j.invariant.2,
+      ∙ rows_turn c.loop-j.r c.loop-j.y c.args.up c.loop-j.j _ c.requires.1 c.loop-j-test.true c.loop-j.invariant.2,
 )
 
 pub returns : goal.returns
