@@ -3,8 +3,7 @@
 -- the arguments, what is returned, and the arguments at exit. So a contract that says less than all, such as a bound or an implication, is
 -- refused here. Fixed.antt, FixedStorage.antt and FixedEngine.antt have the same with the definitions written out, and the proofs.
 --
--- Sixty-four of the sixty-seven public functions of wire, text, storage, engine and transport stand here, in the order of src/. The other three,
--- of engine's bus.rt, are walked by hand and have no `Learnt`: FixedEngine.antt has them.
+-- All sixty-eight public functions of wire, text, storage, engine and transport stand here, in the order of src/.
 use Rattle.std.specs.Prelude.{◌≡◌, []}
 use Rattle.wire.proofs.bytes.u16_at.Reads as u16_at
 use Rattle.wire.proofs.bytes.u32_at.Reads as u32_at
@@ -58,6 +57,9 @@ use Rattle.engine.proofs.api.read.Reads as engine_read
 use Rattle.engine.proofs.api.cleared.Reads as cleared
 use Rattle.engine.proofs.api.is_upgrading.Reads as is_upgrading
 use Rattle.engine.proofs.api.is_asked.Reads as is_asked
+use Rattle.engine.proofs.bus.reset.Reads as bus_reset
+use Rattle.engine.proofs.bus.host_upgrading.Reads as host_upgrading
+use Rattle.engine.proofs.bus.reset_requested.Reads as reset_requested
 use Rattle.engine.proofs.command.is_query.Reads as is_query
 use Rattle.engine.proofs.command.pair_of.Reads as pair_of
 use Rattle.engine.proofs.shell.text_len.Reads as text_len
@@ -329,6 +331,22 @@ is_upgrading_one k a r r' s s' = meet
 -- `api::is_asked`
 pub is_asked_one : Returns is_asked.Learnt
 is_asked_one k a r r' s s' = meet
+
+-- `bus::reset`: the record
+pub bus_reset_one : Fixes bus_reset.Learnt (λ k r r' s s'. s.0.now ≡ s'.0.now)
+bus_reset_one k a r r' s s' = meet
+
+-- `bus::host_upgrading`: the answer and the record
+pub host_upgrading_one : Fixes host_upgrading.Learnt (λ k r r' s s'.
+    (r ≡ r')
+    × (s.0.now ≡ s'.0.now))
+host_upgrading_one k a r r' s s' h h' = (meet h.0 h'.0, meet h.1 h'.1)
+
+-- `bus::reset_requested`: the answer and the record
+pub reset_requested_one : Fixes reset_requested.Learnt (λ k r r' s s'.
+    (r ≡ r')
+    × (s.0.now ≡ s'.0.now))
+reset_requested_one k a r r' s s' h h' = (meet h.0 h'.0, meet h.1 h'.1)
 
 -- `command::is_query`
 pub is_query_one : Returns is_query.Learnt

@@ -8,15 +8,14 @@
 -- less, sets burn to 1, which stays (`piece_told`); the write that brings the last byte lays a fail reply where burn is 1, where the
 -- storage took less of this piece, or where the flush fails (`end_fails`), and OK with no data elsewhere (`end_lands`); and the burn query
 -- then tells 1 (`failure_asked`). From any state between frames the burn query tells the update's burn, and the CRC query its checksum
--- (`burn_tells`, `crc_tells`).
-use Rattle.std.specs.Prelude.{◌≡◌, Bool, true, false, ℕ, ◌+◌, ◌-◌, ◌≤◌, ◌<◌, ◌^◌, eqb, replicate}
+-- (`burn_tells`, `crc_tells`). `fail_told`, `send_opens` and `send_refused` stand in proofs/Failures.antt.
+use Rattle.std.specs.Prelude.{◌≡◌, Bool, true, ℕ, ◌+◌, ◌-◌, ◌≤◌, ◌<◌, eqb, replicate}
 use Rattle.std.proofs.Math.Path.{refl, ap, subst}
 use Rattle.std.proofs.Common.{sym, ◌∙◌, arith}
 use Rattle.std.proofs.Math.Bool.{cond}
-use mathlib.Core.List.{List, [], ◌++◌}
+use mathlib.Core.List.{List, []}
 use borrow.Author.Tests.{eq-eqb, ne_eqb}
 use Rattle.std.proofs.Math.ListN.{length, length-append}
-use Rattle.std.proofs.lemmas.List.Edits.{sets}
 use Rattle.wire.specs.Bytes.{bytes_of}
 use Rattle.wire.specs.Crc.{crc_update}
 use Rattle.wire.specs.Header.{reply_magic, header_of, parsed}
@@ -25,22 +24,19 @@ use Rattle.storage.specs.World.{Lent}
 use Rattle.storage.specs.Open.{one_of}
 use Rattle.storage.specs.Store.{flushing, writing, reading}
 use Rattle.storage_laws.specs.Bounds.{either}
-use Rattle.engine.specs.declared.frame.Next.TheVariants.{Send}
 use Rattle.engine.specs.World.{Given, World, with_up, at_e, dev_of, at_dev, Out, out_of}
 use Rattle.engine.specs.Reply.{Answer, ok, fail, whether, ran, status_by, reply_by, replied, ends}
 use Rattle.engine.specs.Command.{short_by, short_of, plain}
 use Rattle.engine.specs.Storing.{probed, crc_query}
 use Rattle.engine.specs.Exec.{group_of, storing, runs, begun, answered}
-use Rattle.engine.specs.Stream.{burn_by, fed_by, fed, taken, settled_by, settled, finishes, streamed_by, started, begins}
-use Rattle.engine.specs.Frame.{next_by, next_of, headed_by, grown}
+use Rattle.engine.specs.Stream.{burn_by, fed_by, fed, taken, settled_by, settled, finishes}
 use Rattle.engine.specs.Feed.{feeds}
 use Rattle.engine.specs.Api.{fits, writes}
 use Rattle.engine.proofs.Replies.{header_length}
-use Rattle.engine.proofs.Tidies.{runs_tidy}
 use Rattle.engine_laws.specs.Bounds.{in_bounds, write_feeds, write_fits}
 use Rattle.engine_laws.specs.Piece.{piece_goes}
 use Rattle.engine_laws.specs.Cut.{fed_left}
-use Rattle.engine_laws.specs.Whole.{at_request, emptied_at, between_is, header_done, roomed, frame_done}
+use Rattle.engine_laws.specs.Whole.{at_request, emptied_at, between_is, roomed, frame_done}
 use Rattle.promises.specs.Frames.{Between}
 use Rattle.promises.specs.Update.{waiting, stream_whole, laid_waits}
 use Rattle.promises.specs.Queries.{Question, crc, burn, number, QueryFrame}
@@ -55,26 +51,6 @@ module _ (g : Given) (v : World) (f : fits g v ≡ true) (b : Between v.e) (h m 
   -- as a command finds the world
   abbrev pub found : World
   found = at_e (begun c v.e) (at_request (roomed v.request h m) v)
-
-  whole : writes g v (h ++ m) ≡ answered c (runs g c m found)
-  whole =
-      write_feeds g v f (h ++ m)
-      ∙ ap (λ (x : World). feeds g x (h ++ m)) (sym (between_is v (λ i. record { len = b.len i; total = b.total i })))
-      ∙ frame_done g v b.left h m n (omega (arith, (in_bounds g v f).fit.mid.request)) c s p o t
-
-  -- what a command answers is told: the write returns its status, and its reply waits
-  pub answer_told : (a : Answer) → length (reply_by c a) ≤ 4112 → (runs g c m found).answer ≡ a → ((writes g v (h ++ m)).status ≡ status_by a) × (waiting (writes g v (h ++ m)).w ≡ reply_by c a)
-  unfolding ends
-  answer_told a i e =
-      let r = runs g c m found in
-      let y : length r.w.reply ≡ 4112 = ap length (runs_tidy g c m found).keeps.reply ∙ (in_bounds g v f).fit.mid.reply in
-      let q = whole ∙ ap (λ (x : Answer). ends c x r.w) e in
-      (ap (λ (x : Out). x.status) q, ap (λ (x : Out). waiting x.w) q ∙ laid_waits c a r.w (omega arith))
-
-  -- 1d, "executed command fails": the write returns 1, and a fail reply waits
-  pub fail_told : (runs g c m found).answer ≡ fail → ((writes g v (h ++ m)).status ≡ 1) × (waiting (writes g v (h ++ m)).w ≡ reply_by c fail)
-  unfolding status_by
-  fail_told = answer_told fail (omega (arith, fail_length c))
 
 -- ---- SEND_FWC_DATA's header
 
@@ -98,44 +74,6 @@ pub record Denied (v : World) (o : Out) : Type 0 where
   pub frame : o.w.e.frame ≡ record { len = 0; total = 0 }
   pub store : dev_of o.w ≡ dev_of v
   pub scratch : o.w.scratch ≡ v.scratch
-
-module _ (g : Given) (v : World) (f : fits g v ≡ true) (b : Between v.e) (h : List ℕ) (k : length h ≡ 16) (s n : ℕ) (p : parsed h ≡ header.Request 0x12 s n) (j : n < 2 ^ 32) where
-  abbrev headed : World
-  headed = at_request (sets v.request 0 h) (emptied_at v)
-
-  abbrev opened : World
-  opened = at_e (with_up (started n v.e.up) headed.e) headed
-
-  send_next : next_of h ≡ Send n
-  unfolding next_of
-  send_next = ap next_by p ∙ ap Send (omega arith)
-
-  send_is : writes g v h ≡ cond v.e.up.valid (streamed_by g.lent opened) (ends 0x12 fail headed)
-  unfolding begins
-  send_is =
-      write_feeds g v f h ∙ ap (λ (x : World). feeds g x h) (sym (between_is v (λ i. record { len = b.len i; total = b.total i })))
-      ∙ header_done g v b.left h k (omega (arith, (in_bounds g v f).fit.mid.request)) ∙ ap (headed_by g (grown (emptied_at v) h)) send_next
-
-  -- "With metadata it zeroes written, crc, burn and run, and the next `length` bytes are payload"
-  pub send_opens : v.e.up.valid ≡ true → 0 < n → Opened n v (writes g v h)
-  send_opens a i =
-      subst (Opened n v)
-      (sym (send_is ∙ ap (λ (t : Bool). cond t (streamed_by g.lent opened) (ends 0x12 fail headed)) a ∙ ap (λ (t : Bool). cond t (finishes g.lent opened) (out_of 0 opened)) (ne_eqb n 0 (λ e. omega arith))))
-      (record { status = refl; left = refl; written = refl; crc = refl; burn = refl; aimed = refl; target = refl; frame = refl; store = refl })
-
-  -- 1c, "SEND_FWC_DATA without valid metadata": the write returns 1, and a fail reply waits
-  pub send_refused : v.e.up.valid ≡ false → Denied v (writes g v h)
-  unfolding ends status_by replied
-  send_refused a =
-      subst (Denied v) (sym (send_is ∙ ap (λ (t : Bool). cond t (streamed_by g.lent opened) (ends 0x12 fail headed)) a))
-      (record {
-        status = refl;
-        waits = laid_waits 0x12 fail headed (omega (arith, fail_length 0x12, (in_bounds g v f).fit.mid.reply));
-        up = refl;
-        frame = refl;
-        store = refl;
-        scratch = refl;
-      })
 
 -- ---- a piece
 

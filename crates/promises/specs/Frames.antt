@@ -11,13 +11,15 @@
 --   `refused_keeps`, `refused_spelled`  a refused header, some of it gathered before: only the request changes
 --   `refused_behind`, `behind_spelled`  the same with whole frames before it in the call
 --   `refused_cut`    the same with the header cut across writes anyhow and reads between: nothing changed since its first byte
-use Rattle.std.specs.Prelude.{◌≡◌, Bool, ◌⊎◌, leb, ltb, length, get_or, replicate}
+-- `one_between`, `header_judged`, `header_gathers`, `one_judged`, `reset_judged`, `behind_spelled` and `refused_cut` stand in
+-- proofs/Frames.antt.
+use Rattle.std.specs.Prelude.{◌≡◌, Bool, ◌⊎◌, leb, length, get_or, replicate}
 use Rattle.std.proofs.Math.Path.{refl, sym, ap, subst}
 use Rattle.std.proofs.Common.{◌∙◌, inl, inr, add-zero, arith, drop_of_length-le, length-take-le, take_all, take_at}
 use Rattle.std.proofs.Math.Bool.{true, false, cond}
 use mathlib.Core.List.{List, [], ◌∷◌, ◌++◌, append-nil, append_assoc}
-use Prim.Native.Nat.{ℕ, zero, suc, ◌+◌, ◌-◌, ◌%◌, ◌≤◌, ◌<◌, ◌^◌, min}
-use borrow.Author.Tests.{eq-eqb, ne_eqb, eqb-true, eqb-false, lt-leb, leb-false}
+use Prim.Native.Nat.{ℕ, ◌+◌, ◌-◌, ◌%◌, ◌≤◌, ◌<◌, ◌^◌, min}
+use borrow.Author.Tests.{eq-eqb, ne_eqb, eqb-false, lt-leb, leb-false}
 use Rattle.std.proofs.Math.Dec.{eqb}
 use Rattle.std.proofs.Math.ListN.{take, drop, length-append}
 use Rattle.std.proofs.lemmas.List.Edits.{sets, sets-eq}
@@ -39,8 +41,6 @@ use Rattle.engine.specs.declared.types.Frame.{Frame}
 use Rattle.engine.specs.declared.types.Said.{Said}
 use Rattle.engine.specs.declared.exec.Group.{Group}
 use Rattle.engine.specs.declared.exec.Group.TheVariants as group
-use Rattle.engine.specs.declared.exec.Order.{Order}
-use Rattle.engine.specs.declared.exec.Order.TheVariants.{Bad, Run}
 use Rattle.engine.specs.declared.frame.Next.{Next}
 use Rattle.engine.specs.declared.frame.Next.TheVariants.{Refused, Send, Total}
 use Rattle.engine.specs.declared.storing.Target.{Target}
@@ -53,22 +53,20 @@ use Rattle.engine.specs.declared.shell.Text.{Text}
 use Rattle.engine.specs.declared.shell.Text.TheVariants as text
 use Rattle.engine.specs.declared.shell.Window.{Window}
 use Rattle.engine.specs.declared.shell.Window.TheVariants as window
-use Rattle.engine.specs.World.{Given, World, world, with_frame, with_said, with_up, emptied, at_e, dev_of, at_dev, Out, out_of}
-use Rattle.engine.specs.Reply.{Answer, ok, fail, whether, Ran, ran, replied, ends}
+use Rattle.engine.specs.World.{Given, World, world, with_frame, with_said, emptied, at_e, dev_of, at_dev, Out, out_of}
+use Rattle.engine.specs.Reply.{ok, fail, whether, Ran, ran}
 use Rattle.engine.specs.Command.{write_of, read_of, pair_of}
 use Rattle.engine.specs.Storing.{after_flush, end_upgrade, probed, crc_query, read_fwc_by, read_fwc, erased_by, erase_storage, target_of, aimed_at, aims, is_meta, set_meta}
 use Rattle.engine.specs.Shell.{line_of, window_of, text_of}
 use Rattle.engine.specs.Running.{run_erase, run_write, run_read, run_boot, run_by, run_line, shell_by, shell}
-use Rattle.engine.specs.Exec.{group_of, wrote_by, memory, storing, runs_by, runs, order_of, begun, performs, exec_by, execs}
-use Rattle.engine.specs.Stream.{fed, finishes, streamed_by, streams, started, begins}
-use Rattle.engine.specs.Frame.{next_by, next_of, refuses, framed, ripens, headed_by, heads, grown, fills, gathers}
-use Rattle.engine.specs.Feed.{want_by, turns, cut_of, then_by, goes, feeds}
+use Rattle.engine.specs.Exec.{group_of, wrote_by, memory, storing, runs_by, runs}
+use Rattle.engine.specs.Frame.{next_by, next_of, refuses, headed_by, heads, grown, fills, gathers}
+use Rattle.engine.specs.Feed.{want_by, turns, cut_of, then_by, feeds}
 use Rattle.engine.specs.declared.api.Opening.{Opening}
 use Rattle.engine.specs.Api.{rooms_ok, fits, fresh, no_store, refused, opened_by, opened_nor, opened_nand, writes, reads, read_by, Read, cleared}
-use Rattle.engine.proofs.Tidies.{runs_tidy}
 use Rattle.engine.proofs.Frames.{fills_more, fills_head}
 use Rattle.engine.proofs.Feeds.{feed_step, feed_nil, then_go, then_stop, turn_frame}
-use Rattle.engine_laws.specs.Bounds.{in_bounds, write_feeds, write_fits, read_fits, reset_fits, Call, write, read, reset, after_all}
+use Rattle.engine_laws.specs.Bounds.{in_bounds, write_feeds, write_fits, read_fits, Call, write, read, reset, after_all}
 use Rattle.engine_laws.specs.Cut.{write_cut_unaimed}
 use Rattle.engine_laws.specs.Front.{gathered_header}
 
@@ -235,92 +233,6 @@ module _ (g : Given) where
       go group.Storage = storing_same c d w
       go group.Plain = refl
 
-  -- ---- status 1
-
-  abbrev Ended : Out → Type 0
-  Ended o = o.status ≡ 1 → Between o.w.e
-
-  zero_ended : (w : World) → Ended (out_of 0 w)
-  zero_ended w z = absurd (omega arith)
-
-  -- a stream's bytes have status 0
-  streamed_ended : (w : World) → Ended (streamed_by g.lent w)
-  unfolding finishes
-  streamed_ended w = either Ended (eqb w.e.up.left 0) (finishes g.lent w) (out_of 0 w) (λ z. absurd (omega arith)) (zero_ended w)
-
-  -- a command's end leaves frame and stream
-  ends_ended : (c : ℕ) (a : Answer) (w : World) → Between w.e → Ended (ends c a w)
-  unfolding ends replied
-  ends_ended c a w b z = record { len = b.len; total = b.total; left = b.left }
-
-  module _ (w : World) (h : w.e.up.left ≡ 0) where
-    performs_ended : (c n : ℕ) → Ended (performs g c n w)
-    unfolding performs
-    performs_ended c n =
-        let d = take n (drop 16 w.request) in
-        let v = at_e (begun c w.e) w in
-        let r = runs g c d v in
-        let f = (runs_tidy g c d v).keeps.frame in
-        ends_ended c r.answer r.w
-        (record { len = ap (λ (x : Frame). x.len) f; total = ap (λ (x : Frame). x.total) f; left = runs_same c d v ∙ h })
-
-    execs_ended : Ended (execs g w)
-    unfolding execs
-    execs_ended = go (order_of (take w.e.frame.total w.request))
-      where
-        go : (o : Order) → Ended (exec_by g w o)
-        go Bad = λ z. record { len = refl; total = refl; left = h }
-        go (Run c n) = performs_ended c n
-
-    ripens_ended : Ended (ripens g w)
-    unfolding ripens
-    ripens_ended = either Ended (ltb w.e.frame.len w.e.frame.total) (out_of 0 w) (execs g w) (zero_ended w) execs_ended
-
-    begins_ended : (n : ℕ) → Ended (begins g.lent n (at_e (emptied w.e) w))
-    unfolding begins
-    begins_ended n =
-        let v = at_e (emptied w.e) w in
-        let u = at_e (with_up (started n v.e.up) v.e) v in
-        either Ended v.e.up.valid (streamed_by g.lent u) (ends 0x12 fail v) (streamed_ended u)
-        (ends_ended 0x12 fail v (record { len = refl; total = refl; left = h }))
-
-  heads_ended : (w : World) → w.e.up.left ≡ 0 → Ended (heads g w)
-  unfolding heads
-  heads_ended w h = go (next_of w.request)
-    where
-      go : (x : Next) → Ended (headed_by g w x)
-      go Refused = λ z. record { len = refl; total = refl; left = h }
-      go (Send n) = begins_ended w h n
-      go (Total t) = ripens_ended (framed 16 t w) h
-
-  fills_ended : (w : World) → w.e.up.left ≡ 0 → Ended (fills g w)
-  unfolding fills
-  fills_ended w h =
-      either Ended (eqb w.e.frame.total 0) (cond (ltb w.e.frame.len 16) (out_of 0 w) (heads g w)) (ripens g w)
-      (either Ended (ltb w.e.frame.len 16) (out_of 0 w) (heads g w) (zero_ended w) (heads_ended w h)) (ripens_ended w h)
-
-  turns_ended : (p : List ℕ) (w : World) → Ended (turns g p w)
-  unfolding turns gathers streams
-  turns_ended p w = go (eqb w.e.up.left 0) refl
-    where
-      go : (b : Bool) → eqb w.e.up.left 0 ≡ b → Ended (cond b (gathers g p w) (streams g.lent p w))
-      go true e = fills_ended (grown w p) (eqb-true w.e.up.left 0 e)
-      go false e = streamed_ended (fed g.lent p w)
-
-  goes_ended : (k : ℕ) (w : World) (d : List ℕ) → Ended (goes g k w d)
-  unfolding goes then_by
-  goes_ended zero w d = zero_ended w
-  goes_ended (suc k) w [] = zero_ended w
-  goes_ended (suc k) w (b ∷ bs) =
-      let o = turns g (take (cut_of w) (b ∷ bs)) w in
-      let r = drop (cut_of w) (b ∷ bs) in
-      either Ended (eqb o.status 0) (goes g k o.w r) o (goes_ended k o.w r) (turns_ended (take (cut_of w) (b ∷ bs)) w)
-
-  -- demand 3: 'After any calls at all, a write returning 1 puts the engine between frames'. Any state, any storage, any bytes
-  pub one_between : (w : World) (d : List ℕ) → (writes g w d).status ≡ 1 → Between (writes g w d).w.e
-  unfolding writes feeds
-  one_between w d = either Ended (fits g w) (feeds g w d) (out_of 9 w) (goes_ended (length d) w d) (λ z. absurd (omega arith))
-
   -- such a write was not refused, so the engine fits its parts
   pub one_fits : (w : World) (d : List ℕ) → (writes g w d).status ≡ 1 → fits g w ≡ true
   unfolding writes
@@ -342,7 +254,7 @@ module _ (g : Given) where
     abbrev k : ℕ
     k = w.e.frame.len
 
-    head_few : k < 16
+    pub head_few : k < 16
     head_few = (in_bounds g w h.fit).fit.frame.0 h.total
 
     head_cut : cut_of w ≡ 16 - k
@@ -384,34 +296,6 @@ module _ (g : Given) where
             feed_step g w d (omega arith)
             ∙ rw (take_all (cut_of w) d (omega arith), drop_of_length-le d {i = cut_of w} (omega arith), t) (then_go g (out_of 0 (grown w d)) _ refl)
             ∙ feed_nil g (grown w d)
-
-  module _ (w : World) (f : fits g w ≡ true) (b : Between w.e) where
-    between_heading : Heading w
-    between_heading = record { fit = f; total = b.total; left = b.left }
-
-    -- demand 3: 'the next write's bytes start a frame': the first sixteen are the header that is judged
-    pub header_judged : (d : List ℕ) → 16 ≤ length d
-        → writes g w d ≡ then_by (headed_by g (grown w (take 16 d)) (next_of (take 16 d))) (λ v. feeds g v (drop 16 d))
-    header_judged d n =
-        subst
-        (λ (k : ℕ). writes g w d ≡ then_by (headed_by g (grown w (take (16 - k) d)) (next_of (take k w.request ++ take (16 - k) d))) (λ v. feeds g v (drop (16 - k) d)))
-        b.len (heading_judged w between_heading d (omega (arith, b.len)))
-
-    -- and fewer are its beginning
-    pub header_gathers : (d : List ℕ) → length d < 16 → writes g w d ≡ out_of 0 (grown w d)
-    header_gathers d n = heading_gathers w between_heading d (omega (arith, b.len))
-
-  -- the write behind one that returned 1: its first sixteen bytes are the header that is judged
-  pub one_judged : (w : World) (d s : List ℕ) → (writes g w d).status ≡ 1 → 16 ≤ length s
-      → (let v = (writes g w d).w in
-      writes g v s ≡ then_by (headed_by g (grown v (take 16 s)) (next_of (take 16 s))) (λ u. feeds g u (drop 16 s)))
-  one_judged w d s z = header_judged (writes g w d).w (write_fits g w (one_fits w d z) d) (one_between w d z) s
-
-  -- and the write behind a reset
-  pub reset_judged : (w : World) (s : List ℕ) → fits g w ≡ true → 16 ≤ length s
-      → (let v = at_e (cleared w.e) w in
-      writes g v s ≡ then_by (headed_by g (grown v (take 16 s)) (next_of (take 16 s))) (λ u. feeds g u (drop 16 s)))
-  reset_judged w s f = header_judged (at_e (cleared w.e) w) (reset_fits g w f) (reset_between w.e) s
 
 -- ---- which headers are refused
 
@@ -457,12 +341,12 @@ pub record Alike (w v : World) : Type 0 where
   pub asked : v.e.asked ≡ w.e.asked
   pub base : v.e.base ≡ w.e.base
 
-alike_refl : (w : World) → Alike w w
+pub alike_refl : (w : World) → Alike w w
 alike_refl w =
     record { up = refl; reply = refl; store = refl; chip = refl; buffer = refl; scratch = refl; upgrading = refl; asked = refl; base = refl }
 
 -- from v on only frame, request and said differ
-alike_on : (w v : World) (f : Frame) (s : Said) (q : List ℕ) → Alike w v
+pub alike_on : (w v : World) (f : Frame) (s : Said) (q : List ℕ) → Alike w v
     → Alike w (world (with_said s (with_frame f v.e)) q v.reply v.chip v.buffer v.scratch)
 alike_on w v f s q a =
     record {
@@ -533,17 +417,14 @@ module _ (g : Given) where
     v = (writes g w a).w
 
     module _ (t : v.e.frame.total ≡ 0) (l : v.e.up.left ≡ 0) (n : 16 ≤ v.e.frame.len + length d) (r : next_of (header_at v d) ≡ Refused) where
-      behind_heading : Heading g v
+      pub behind_heading : Heading g v
       behind_heading = record { fit = write_fits g w f a; total = t; left = l }
 
-      behind_cut : writes g w (a ++ d) ≡ writes g v d
+      pub behind_cut : writes g w (a ++ d) ≡ writes g v d
       behind_cut = write_cut_unaimed g w f a d z (λ o. absurd (o l))
 
       pub refused_behind : writes g w (a ++ d) ≡ turned_away v (take (16 - v.e.frame.len) d)
       refused_behind = behind_cut ∙ refused_keeps v behind_heading d n r
-
-      pub behind_spelled : Untouched v (writes g w (a ++ d))
-      behind_spelled = subst (Untouched v) (sym behind_cut) (refused_spelled v behind_heading d n r)
 
   -- ---- a header cut across writes, with reads between
 
@@ -554,16 +435,6 @@ module _ (g : Given) where
     pub len : v.e.frame.len ≡ length h
     pub alike : Alike w v
     pub told : v.e.said.len ≡ w.e.said.len
-
-  pub begun_start : (w : World) → fits g w ≡ true → Between w.e → Begun w [] w
-  begun_start w f b =
-      record {
-        heading = between_heading g w f b;
-        bytes = ap (λ (k : ℕ). take k w.request) b.len;
-        len = b.len;
-        alike = alike_refl w;
-        told = refl;
-      }
 
   module _ (w : World) (h : List ℕ) (v : World) (b : Begun w h v) where
     abbrev at : ℕ
@@ -607,7 +478,7 @@ module _ (g : Given) where
         })
 
     -- with the piece that completes it, the first sixteen bytes of all that came are judged
-    header_is : (d : List ℕ) → length h < 16 → header_at v d ≡ take 16 (h ++ d)
+    pub header_is : (d : List ℕ) → length h < 16 → header_at v d ≡ take 16 (h ++ d)
     header_is d n =
         let k : length h + (16 - length h) ≡ 16 = omega arith in
         rw (b.bytes, b.len) (sym (take-append-add h d (16 - length h))) ∙ ap (λ (m : ℕ). take m (h ++ d)) k
@@ -621,18 +492,7 @@ module _ (g : Given) where
         ∙ ap (λ (x : List ℕ). then_by (headed_by g (grown v (take (16 - at) d)) (next_of x)) (λ u. feeds g u (drop (16 - at) d))) (header_is d (omega arith))
         ∙ ap (λ (k : ℕ). then_by (headed_by g (grown v (take (16 - k) d)) (next_of (take 16 (h ++ d)))) (λ u. feeds g u (drop (16 - k) d))) l
 
-    -- and if they are refused, nothing changed but the request since the first of them came
-    begun_refused : (d : List ℕ) → 16 ≤ length h + length d → next_of (take 16 (h ++ d)) ≡ Refused → Untouched v (writes g v d) × Alike w (writes g v d).w
-    begun_refused d n r =
-        let i = head_few g v b.heading in
-        let l = b.len in
-        let x = ap next_of (header_is d (omega arith)) ∙ r in
-        let q = sets v.request at (take (16 - at) d) in (
-          refused_spelled v b.heading d (omega arith) x,
-          rw (refused_keeps v b.heading d (omega arith) x) (alike_on w v (record { len = 0; total = 0 }) v.e.said q b.alike),
-        )
-
-  begun_run : (cs : List Call) (w : World) (h : List ℕ) (v : World) → Begun w h v → NoReset cs → length h + length (sent_by cs) < 16
+  pub begun_run : (cs : List Call) (w : World) (h : List ℕ) (v : World) → Begun w h v → NoReset cs → length h + length (sent_by cs) < 16
       → Begun w (h ++ sent_by cs) (after_all g v cs)
   unfolding after_all
   begun_run [] w h v b o n = rw (append-nil h) b
@@ -643,15 +503,3 @@ module _ (g : Given) where
       (begun_run cs w (h ++ d) (writes g v d).w (begun_write w h v b d (omega arith)) o (omega arith))
   begun_run (read room ∷ cs) w h v b o n = begun_run cs w h (at_e (reads g v room).e v) (begun_read w h v b room) o n
   begun_run (reset ∷ cs) w h v b o n = absurd o
-
-  -- between frames, the bytes of a header cut across writes anyhow, with reads between
-  module _ (w : World) (f : fits g w ≡ true) (b : Between w.e) (cs : List Call) (o : NoReset cs) (i : length (sent_by cs) < 16) where
-    -- while fewer than sixteen came they are gathered, and all else is as it was but what reads took
-    pub header_begun : Begun w (sent_by cs) (after_all g w cs)
-    header_begun = begun_run cs w [] w (begun_start w f b) o (omega arith)
-
-    -- demand 3: 'A frame refused for a wrong header or its size (1a, 1b) changes no update record, waiting reply or flash': neither the
-    -- write that completed its header, nor any since its first byte
-    pub refused_cut : (d : List ℕ) → 16 ≤ length (sent_by cs) + length d → next_of (take 16 (sent_by cs ++ d)) ≡ Refused
-        → (let v = after_all g w cs in Untouched v (writes g v d) × Alike w (writes g v d).w)
-    refused_cut d = begun_refused w (sent_by cs) (after_all g w cs) header_begun d

@@ -3,32 +3,27 @@
 -- command fails exactly for the reasons of `Why`, has the odd reply exactly for those of `Large`, and is unsupported exactly where 01 does
 -- not have it (`fails_iff`, `odd_iff`, `unsupported_iff`).
 --   Between frames, a frame whose command has a reason then returns the status and leaves the reply that 01 names (`why_told`, `large_told`,
--- `unknown_told`).
-use Rattle.std.specs.Prelude.{◌≡◌, true, false, List, ◌++◌, ℕ, ◌+◌, ◌≤◌, eqb, length, replicate}
+-- `unknown_told`, proofs/Gives.antt).
+use Rattle.std.specs.Prelude.{◌≡◌, false, List, ℕ, ◌+◌, eqb, length, replicate}
 use Rattle.std.proofs.Math.Path.{refl}
 use Rattle.std.proofs.Common.{sym, ap, subst, ◌∙◌, arith, length-append}
 use Rattle.text.specs.Utf8.{is_utf8}
-use Rattle.wire.specs.Header.{reply_magic, header_of, parsed}
-use Rattle.wire.specs.declared.header.Header.TheVariants as header
+use Rattle.wire.specs.Header.{reply_magic, header_of}
 use Rattle.storage.specs.Open.{one_of}
 use Rattle.engine.specs.declared.shell.Line.{Line}
 use Rattle.engine.specs.World.{Given, World}
-use Rattle.engine.specs.Reply.{Answer, fail, unsupported, odd, status_by, reply_by}
+use Rattle.engine.specs.Reply.{Answer, fail, unsupported, odd, reply_by}
 use Rattle.engine.specs.Command.{table_text, short_by, short_of, long_by, long_of, plain, read_of, write_of}
 use Rattle.engine.specs.Storing.{end_upgrade, crc_query, read_fwc, erase_storage, is_meta, set_meta}
 use Rattle.engine.specs.Shell.{line_of}
 use Rattle.engine.specs.Running.{run_by, shell}
 use Rattle.engine.specs.Exec.{group_of, memory, storing, runs}
-use Rattle.engine.specs.Api.{fits, writes}
 use Rattle.engine.proofs.Replies.{header_length}
-use Rattle.promises.specs.Frames.{Between}
-use Rattle.promises.specs.Update.{waiting}
 use Rattle.promises.specs.Why.{line_in, meta_in, Why, Large, known, write_cut, write_less, write_beyond, read_cut, read_beyond, shell_cut, shell_less, shell_text, shell_line_lem, shell_run, end_flush, meta_cut, meta_magic, meta_flush, meta_unknown, crc_flush, table_none, fwc_cut, erase_cut, erase_flush, erase_failed, read_large, table_large}
 use Rattle.promises.specs.Picked.{or_false}
 use Rattle.promises.specs.Lines.{line_bad}
 use Rattle.promises.specs.Answers.{asks, fail_why, odd_why, unsupported_why}
 use Rattle.promises.specs.Failing.{not_both, Failed, write_fails, read_fails, upgrade_fails, crc_fails, fwc_fails, erase_fails, target_fails, meta_fails, run_fails, shell_fails, read_odd, table_fails, table_odd}
-use Rattle.promises.specs.Failures.{found, answer_told, fail_told}
 
 module _ (g : Given) (c : ℕ) (bytes : List ℕ) (w : World) where
   -- ---- by number
@@ -144,32 +139,10 @@ module _ (g : Given) (c : ℕ) (bytes : List ℕ) (w : World) where
 
 -- ---- and it is told
 
-odd_length : (c : ℕ) → length (reply_by c odd) ≡ 16
+pub odd_length : (c : ℕ) → length (reply_by c odd) ≡ 16
 unfolding reply_by
 odd_length c = header_length 0 1 0 0
 
-unsupported_length : (c : ℕ) → length (reply_by c unsupported) ≡ 124
+pub unsupported_length : (c : ℕ) → length (reply_by c unsupported) ≡ 124
 unfolding reply_by
 unsupported_length c = length-append (header_of reply_magic c 1 108) (replicate 108 0) ∙ ap (λ (k : ℕ). k + 108) (header_length reply_magic c 1 108)
-
--- between frames, a frame of a command on its data, which finds the world as `found` says
-module _ (g : Given) (v : World) (f : fits g v ≡ true) (b : Between v.e) (h m : List ℕ) (n : length h ≡ 16) (c s : ℕ) (p : parsed h ≡ header.Request c s (length m))
-    (o : c ≡ 0x12 → ⊥) (t : length m ≤ 8192) where
-  abbrev finds : World
-  finds = found g v f b h m n c s p o t
-
-  -- 1d, "executed command fails", and "A fail reply is a header with status 1 and no data": for each of its reasons the write returns 1, and
-  -- that reply waits
-  pub why_told : Why g c m finds → ((writes g v (h ++ m)).status ≡ 1) × (waiting (writes g v (h ++ m)).w ≡ header_of reply_magic c 1 0)
-  unfolding reply_by
-  why_told y = fail_told g v f b h m n c s p o t (why_fails g c m finds y)
-
-  -- 1e, and "reply magic 0, command 1, status 0, length 0": the write returns 1, and that reply waits
-  pub large_told : Large g c m finds → ((writes g v (h ++ m)).status ≡ 1) × (waiting (writes g v (h ++ m)).w ≡ header_of 0 1 0 0)
-  unfolding status_by reply_by
-  large_told y = answer_told g v f b h m n c s p o t odd (omega (arith, odd_length c)) (large_odd g c m finds y)
-
-  -- "An unsupported command (also 0x01 and 0x0D) returns 0 with header status 1 and 108 zero bytes"
-  pub unknown_told : one_of known c ≡ false → ((writes g v (h ++ m)).status ≡ 0) × (waiting (writes g v (h ++ m)).w ≡ header_of reply_magic c 1 108 ++ replicate 108 0)
-  unfolding status_by reply_by
-  unknown_told y = answer_told g v f b h m n c s p o t unsupported (omega (arith, unsupported_length c)) (unknown_unsupported g c m finds y)

@@ -1,16 +1,16 @@
 -- What is kept. Metadata that name an unknown partition fail, "while the OLD target, written, crc and results stay and the metadata counts
 -- as valid" (01, 'Frame rules'), and of the storage they make no more than a flush: `unknown_kept`, and `unknown_cut` where the frame is
--- cut across writes anyhow. A reset keeps both flags, scratch and storage, and nothing else: `reset_kept`. And a read gives the bytes
--- that wait, of which the promises speak: `read_waits`.
+-- cut across writes anyhow (both in proofs/Kept.antt). A reset keeps both flags, scratch and storage, and nothing else: `reset_kept`.
+-- And a read gives the bytes that wait, of which the promises speak: `read_waits`.
 -- The statements spell out the record field by field, so that they say the same whatever the definitions become.
-use Rattle.std.specs.Prelude.{◌≡◌, Bool, true, false, List, [], ◌∷◌, ◌++◌, ℕ, ◌+◌, ◌-◌, ◌≤◌, ◌<◌, min, length, take, drop, replicate}
+use Rattle.std.specs.Prelude.{◌≡◌, Bool, true, false, List, [], ◌∷◌, ◌++◌, ℕ, ◌+◌, ◌-◌, ◌≤◌, min, length, take, drop, replicate}
 use Rattle.std.proofs.Math.Path.{refl, ap}
 use Rattle.std.proofs.Common.{sym, subst, ◌∙◌, arith, le-leb, eq-eqb, length-drop, length-take-le}
 use Rattle.std.proofs.Math.Bool.{cond}
 use Rattle.std.proofs.lemmas.List.Edits.{sets-eq}
 use Rattle.wire.specs.Header.{reply_magic, parsed}
 use Rattle.wire.specs.declared.header.Header.TheVariants as header
-use Rattle.storage.specs.World.{Lent, Told}
+use Rattle.storage.specs.World.{Lent}
 use Rattle.storage.specs.Open.{one_of}
 use Rattle.storage.specs.Store.{flushing}
 use Rattle.storage.specs.Partition.{Lists, lookup}
@@ -24,14 +24,12 @@ use Rattle.engine.specs.Reply.{fail, ran, status_by, reply_by, replied, ends}
 use Rattle.engine.specs.Storing.{after_flush, partition_field, found_at, target_by, target_of, stored, aimed_at, answer_to, aims, is_meta, set_meta}
 use Rattle.engine.specs.Exec.{group_of, storing, runs, begun, answered}
 use Rattle.engine.specs.Feed.{feeds}
-use Rattle.engine.specs.Api.{fits, writes, Read, reads, read_by}
+use Rattle.engine.specs.Api.{fits, Read, reads, read_by}
 use Rattle.engine.proofs.Replies.{header_length}
-use Rattle.engine_laws.specs.Bounds.{in_bounds, write_feeds, Call, reset, after, after_all}
-use Rattle.engine_laws.specs.Cut.{Quiet}
-use Rattle.engine_laws.specs.Whole.{at_request, emptied_at, between_is, roomed, frame_done}
-use Rattle.promises.specs.Frames.{Between, sent_by, NoReset}
-use Rattle.promises.specs.Cuts.{Answered, Smooth, frame_smooth, carried}
-use Rattle.promises.specs.Flash.{flush_still}
+use Rattle.engine_laws.specs.Bounds.{in_bounds, reset, after}
+use Rattle.engine_laws.specs.Whole.{at_request, emptied_at, roomed, frame_done}
+use Rattle.promises.specs.Frames.{Between}
+use Rattle.promises.specs.Cuts.{Smooth, frame_smooth}
 use Rattle.promises.specs.Update.{waiting, laid_waits}
 use Rattle.promises.specs.Why.{meta_in}
 
@@ -115,14 +113,14 @@ module _ (g : Given) (w : World) (z : w.e.up.left ≡ 0) (r : length w.request �
       ∙ ap (λ (b : Bool). cond b (aims g.lists meta flushed) (ran fail flushed)) (eq-eqb (flushing g.lent (dev_of w)).status 0 t)
       ∙ ap (λ (x : Target). ran (answer_to x) (at_e (with_up (aimed_at meta w.e.up x) flushed.e) flushed)) (unknown_is g.lists meta k.named k.lost)
 
-  lost_is : feeds g (emptied_at w) f ≡ out_of 1 (replied 0x10 fail left)
+  pub lost_is : feeds g (emptied_at w) f ≡ out_of 1 (replied 0x10 fail left)
   unfolding ends status_by
   lost_is =
       ap (feeds g (emptied_at w)) k.is
       ∙ frame_done g w z k.head k.body k.sixteen (omega (arith, k.most)) 0x10 k.status k.says (λ e. omega arith) k.most
       ∙ ap (answered 0x10) (runs_meta ∙ set_lost)
 
-  lost_left : Kept g.lent meta w (out_of 1 (replied 0x10 fail left))
+  pub lost_left : Kept g.lent meta w (out_of 1 (replied 0x10 fail left))
   unfolding replied
   lost_left =
       record {
@@ -141,34 +139,10 @@ module _ (g : Given) (w : World) (z : w.e.up.left ≡ 0) (r : length w.request �
         between = record { len = refl; total = refl; left = z };
       }
 
-  lost_done : Kept g.lent meta w (feeds g (emptied_at w) f)
-  lost_done = subst (Kept g.lent meta w) (sym lost_is) lost_left
-
-  lost_smooth : Smooth g (emptied_at w) f
+  pub lost_smooth : Smooth g (emptied_at w) f
   lost_smooth =
       subst (Smooth g (emptied_at w)) (sym k.is)
       (frame_smooth g w z k.head k.body k.sixteen (omega (arith, k.most)) 0x10 k.status k.says (λ e. omega arith) k.most)
-
-module _ (g : Given) (w : World) (f : fits g w ≡ true) (b : Between w.e) (M : List ℕ) (k : LostFrame g M) where
-  same : emptied_at w ≡ w
-  same = between_is w (λ t. record { len = b.len t; total = b.total t })
-
-  -- THE LAW: from between frames, where the flush does not fail
-  pub unknown_kept : (flushing g.lent (dev_of w)).status ≡ 0 → Kept g.lent (meta_in k.body) w (writes g w M)
-  unknown_kept t =
-      let m = (in_bounds g w f).fit.mid in
-      subst (Kept g.lent (meta_in k.body) w) (ap (λ (x : World). feeds g x M) same ∙ sym (write_feeds g w f M)) (lost_done g w b.left m.request m.reply t M k)
-
-  -- and on a NOR that makes no error, with the frame cut across writes anyhow and reads between
-  pub unknown_cut : Quiet g w → (cs : List Call) (last : List ℕ) → NoReset cs → 0 < length last → sent_by cs ++ last ≡ M
-      → Answered g w cs × Kept g.lent (meta_in k.body) w (writes g (after_all g w cs) last)
-  unknown_cut q cs last n i e =
-      let m = (in_bounds g w f).fit.mid in
-      let t = ap (λ (x : Told). x.status) (flush_still g.lent (dev_of w) q).1 in
-      let d = subst (λ (x : World). Kept g.lent (meta_in k.body) w (feeds g x M)) same (lost_done g w b.left m.request m.reply t M k) in
-      let s = subst (λ (x : World). Smooth g x M) same (lost_smooth g w b.left m.request m.reply t M k) in
-      let c = carried g w q M last s i cs n f e in
-      (c.answered, subst (Kept g.lent (meta_in k.body) w) (sym c.is) d)
 
 -- ---- a reset
 

@@ -12,7 +12,6 @@ pub mod Flash
 pub mod Update
 pub mod Queries
 pub mod Promise
-pub mod Example
 pub mod TwelveLines
 pub mod Picked
 pub mod Why

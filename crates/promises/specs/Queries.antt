@@ -1,5 +1,5 @@
 -- The queries behind an update: the CRC and burn queries, in any number and order, each with whatever data, tell the payload's CRC-32
--- and zero, and change neither that nor the flash (`queries_done`); they too may be cut anyhow (`queries-smooth`).
+-- and zero, and change neither that nor the flash; they too may be cut anyhow (`queries_done`, proofs/Queries.antt).
 use Rattle.std.specs.Prelude.{◌≡◌, true, false, List, [], ◌∷◌, ◌++◌, ℕ, ◌+◌, ◌≤◌, replicate}
 use Rattle.std.proofs.Math.Path.{refl, ap}
 use Rattle.std.proofs.Common.{sym, subst, ◌∙◌, arith}
@@ -8,7 +8,6 @@ use Rattle.wire.specs.Bytes.{bytes_of}
 use Rattle.wire.specs.Crc.{crc32}
 use Rattle.wire.specs.Header.{parsed}
 use Rattle.wire.specs.declared.header.Header.TheVariants as header
-use Rattle.storage.specs.World.{told}
 use Rattle.storage.specs.Store.{reading}
 use Rattle.storage.specs.Open.{one_of}
 use Rattle.storage_laws.specs.Bounds.{either}
@@ -21,9 +20,9 @@ use Rattle.engine.specs.Exec.{group_of, storing, runs, begun, answered}
 use Rattle.engine.specs.Feed.{feeds}
 use Rattle.engine.specs.Api.{fits}
 use Rattle.engine_laws.specs.Bounds.{in_bounds, write_feeds, write_fits}
-use Rattle.engine_laws.specs.Cut.{Quiet, Room, cut_quiet, quiet_feeds}
-use Rattle.engine_laws.specs.Whole.{at_request, emptied_at, between_is, roomed, frame_done}
-use Rattle.promises.specs.Cuts.{Smooth, smooth_append, frame_smooth}
+use Rattle.engine_laws.specs.Cut.{Quiet, Room}
+use Rattle.engine_laws.specs.Whole.{at_request, emptied_at}
+use Rattle.promises.specs.Cuts.{Smooth, frame_smooth}
 use Rattle.promises.specs.Flash.{flush_free_still, read_free_still}
 use Rattle.promises.specs.Update.{waiting, replied_waits, Updated}
 
@@ -71,7 +70,7 @@ pub record Same (v x : World) : Type 0 where
 
 module _ (g : Given) (v : World) (p c : List ℕ) (u : Updated p c v) (q : Quiet g v) (f : fits g v ≡ true) where
   -- as the command finds the world
-  abbrev asked : ℕ → List ℕ → World
+  abbrev pub asked : ℕ → List ℕ → World
   asked n room = at_e (begun n v.e) (at_request room v)
 
   asked_same : (n : ℕ) (room : List ℕ) → Same v (asked n room)
@@ -86,7 +85,7 @@ module _ (g : Given) (v : World) (p c : List ℕ) (u : Updated p c v) (q : Quiet
       either (Same v) v.e.up.aimed (at_dev (reading l v.e.up.target (replicate 16 0) (dev_of v)).told.dev x) x
       (record { frame = refl; up = refl; held = t.1; chip = t.0; reply = refl }) (asked_same n room)
 
-  crc_told : (m room : List ℕ) → (x : World) × Same v x × (runs g 0x13 m (asked 0x13 room) ≡ ran (ok (bytes_of 4 (crc32 p))) x)
+  pub crc_told : (m room : List ℕ) → (x : World) × Same v x × (runs g 0x13 m (asked 0x13 room) ≡ ran (ok (bytes_of 4 (crc32 p))) x)
   unfolding runs group_of one_of storing crc_query
   crc_told m room =
       let l = g.lent in
@@ -97,13 +96,9 @@ module _ (g : Given) (v : World) (p c : List ℕ) (u : Updated p c v) (q : Quiet
             ∙ ap (λ (n : ℕ). ran (ok (bytes_of 4 n)) (probed l x)) u.crc,
       )
 
-  burn_told : (m room : List ℕ) → (x : World) × Same v x × (runs g 0x14 m (asked 0x14 room) ≡ ran (ok (bytes_of 4 0)) x)
+  pub burn_told : (m room : List ℕ) → (x : World) × Same v x × (runs g 0x14 m (asked 0x14 room) ≡ ran (ok (bytes_of 4 0)) x)
   unfolding runs group_of one_of plain short_by short_of
   burn_told m room = let x = asked 0x14 room in (x, asked_same 0x14 room, ap (λ (n : ℕ). ran (ok (bytes_of 4 n)) x) u.burn)
-
-  query_told : (a : Question) (m room : List ℕ) → (x : World) × Same v x × (runs g (number a) m (asked (number a) room) ≡ ran (ok (bytes_of 4 (truth p a))) x)
-  query_told crc m room = crc_told m room
-  query_told burn m room = burn_told m room
 
   word_length : (n : ℕ) → length (bytes_of 4 n) ≡ 4
   unfolding bytes_of
@@ -112,7 +107,7 @@ module _ (g : Given) (v : World) (p c : List ℕ) (u : Updated p c v) (q : Quiet
   reply_room : length v.reply ≡ 4112
   reply_room = (in_bounds g v f).fit.mid.reply
 
-  answer_is : (a : Question) (x : World) → Same v x → Replied p c a (answered (number a) (ran (ok (bytes_of 4 (truth p a))) x))
+  pub answer_is : (a : Question) (x : World) → Same v x → Replied p c a (answered (number a) (ran (ok (bytes_of 4 (truth p a))) x))
   unfolding ends status_by replied
   answer_is a x s =
       record {
@@ -129,21 +124,13 @@ module _ (g : Given) (v : World) (p c : List ℕ) (u : Updated p c v) (q : Quiet
             };
       }
 
-  not_send : (a : Question) → number a ≡ 0x12 → ⊥
+  pub not_send : (a : Question) → number a ≡ 0x12 → ⊥
   not_send crc e = omega arith
   not_send burn e = omega arith
 
   module _ (a : Question) (d : List ℕ) (k : QueryFrame a d) where
-    abbrev request_room : 16 + length k.body ≤ length v.request
+    abbrev pub request_room : 16 + length k.body ≤ length v.request
     request_room = omega (arith, k.most, (in_bounds g v f).fit.mid.request)
-
-    -- THE STEP: a query tells the truth, and leaves the update as it was
-    pub query_done : Replied p c a (feeds g (emptied_at v) d)
-    query_done =
-        let t = query_told a k.body (roomed v.request k.head k.body) in
-        subst (Replied p c a)
-        (sym (ap (feeds g (emptied_at v)) k.is ∙ frame_done g v u.left k.head k.body k.sixteen request_room (number a) k.status k.says (not_send a) k.most ∙ ap (answered (number a)) t.2))
-        (answer_is a t.0 t.1)
 
     pub query_smooth : Smooth g (emptied_at v) d
     query_smooth =
@@ -167,7 +154,7 @@ pub feeds_fits : (g : Given) (v : World) (d : List ℕ) → fits g v ≡ true �
 feeds_fits g v d f = ap (λ (o : Out). fits g o.w) (sym (write_feeds g v f d)) ∙ write_fits g v f d
 
 -- no stream is open behind an update
-updated_room : (g : Given) (v : World) (p c : List ℕ) → Updated p c v → Room g v
+pub updated_room : (g : Given) (v : World) (p c : List ℕ) → Updated p c v → Room g v
 updated_room g v p c u = λ n. absurd (n u.left)
 
 module _ (g : Given) (p c : List ℕ) where
@@ -175,26 +162,3 @@ module _ (g : Given) (p c : List ℕ) where
   pub record Asked (v : World) (a : Question) (more : List Question) (bytes : List ℕ) : Type 0 where
     pub replied : Replied p c (last_of a more) (feeds g v bytes)
     pub smooth : Smooth g v bytes
-
-  queries_go : (more : List Question) (a : Question) (bytes : List ℕ) (v : World) → Updated p c v → Quiet g v → fits g v ≡ true → Queries a more bytes → Asked v a more bytes
-  queries_go [] a bytes v u q f k =
-      let e = between_is v u.frame in
-      record {
-        replied = subst (λ (x : World). Replied p c a (feeds g x bytes)) e (query_done g v p c u q f a bytes k);
-        smooth = subst (λ (x : World). Smooth g x bytes) e (query_smooth g v p c u q f a bytes k);
-      }
-  queries_go (b ∷ more) a bytes v u q f (d, rest, is, k, ks) =
-      let e = between_is v u.frame in
-      let r = subst (λ (x : World). Replied p c a (feeds g x d)) e (query_done g v p c u q f a d k) in
-      let s = subst (λ (x : World). Smooth g x d) e (query_smooth g v p c u q f a d k) in
-      let o = updated_room g (feeds g v d).w p c r.updated in
-      let t = queries_go more b rest (feeds g v d).w r.updated (quiet_feeds g v d q) (feeds_fits g v d f) ks in
-      let j : feeds g v bytes ≡ feeds g (feeds g v d).w rest = ap (feeds g v) is ∙ cut_quiet g v d rest q r.status o in
-      record {
-        replied = subst (Replied p c (last_of b more)) (sym j) t.replied;
-        smooth = subst (Smooth g v) (sym is) (smooth_append g v q d rest r.status o s t.smooth);
-      }
-
-  -- THE LAW: the waiting reply is the truth of the last query
-  pub queries_done : (v : World) → Updated p c v → Quiet g v → fits g v ≡ true → (a : Question) (more : List Question) (bytes : List ℕ) → Queries a more bytes → Asked v a more bytes
-  queries_done v u q f a more bytes = queries_go more a bytes v u q f

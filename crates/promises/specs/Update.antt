@@ -1,7 +1,7 @@
 -- The frames of an update, one by one, on a NOR that makes no error: metadata whose partition is found flush the store and aim the
 -- update (`meta_done`); SEND_FWC_DATA and its payload, cut within the payload or not, write it there, flush, and say OK
--- (`send_done`); both may be cut anyhow (`meta_smooth`, `send_smooth`). Promise.antt puts them together.
-use Rattle.std.specs.Prelude.{◌≡◌, Bool, true, false, ℕ, ◌+◌, ◌-◌, ◌^◌, ◌≤◌, ◌<◌, ltb, eqb, take, drop}
+-- (`send_done`, proofs/Update.antt); both may be cut anyhow (`meta_smooth`, `send_smooth`). proofs/Promise.antt puts them together.
+use Rattle.std.specs.Prelude.{◌≡◌, Bool, true, false, ℕ, ◌+◌, ◌-◌, ◌^◌, ◌≤◌, ◌<◌, ltb, take, drop}
 use Rattle.std.proofs.Math.Path.{refl, sym, ap, subst}
 use Rattle.std.proofs.Common.{◌∙◌, add-zero, le-leb, eq-eqb, ne_eqb, ltb-true, ltb-false, length-append, take-append-drop, take_all, take_at}
 use Rattle.std.proofs.Math.Bool.{cond}
@@ -10,11 +10,10 @@ use native.Mathlib.Omega.{arith}
 use Rattle.std.proofs.Math.ListN.{length, drop_of_length-le}
 use Rattle.std.proofs.lemmas.List.Edits.{sets, sets-eq}
 use Rattle.wire.specs.Crc.{crc32}
-use Rattle.wire.specs.Lines.{p9}
 use Rattle.wire.specs.Header.{reply_magic, header_of, parsed}
 use Rattle.wire.specs.declared.header.Header.TheVariants as header
-use Rattle.storage.specs.World.{Dev, Told}
-use Rattle.storage.specs.Store.{good, flushing, writing}
+use Rattle.storage.specs.World.{Dev}
+use Rattle.storage.specs.Store.{good, flushing}
 use Rattle.storage.proofs.Opens.{sound}
 use Rattle.storage.specs.Open.{one_of}
 use Rattle.storage_laws.specs.View.{view}
@@ -26,17 +25,16 @@ use Rattle.engine.specs.World.{Given, World, with_up, emptied, at_e, dev_of, at_
 use Rattle.engine.specs.Reply.{Answer, ok, fail, ran, status_by, reply_by, replied, ends}
 use Rattle.engine.specs.Storing.{after_flush, target_of, anew, aimed_at, answer_to, aims, is_meta, set_meta}
 use Rattle.engine.specs.Exec.{group_of, storing, runs, begun, answered}
-use Rattle.engine.specs.Stream.{burn_by, fed_by, fed, burnt, settled_by, settled, said_of, finishes, streamed_by, streams, started, begins}
+use Rattle.engine.specs.Stream.{fed, burnt, settled_by, settled, said_of, finishes, streamed_by, streams, started, begins}
 use Rattle.engine.specs.Frame.{next_by, next_of, headed_by, grown}
 use Rattle.engine.specs.Feed.{turns, cut_of, feeds}
 use Rattle.engine.proofs.Replies.{header_length}
 use Rattle.engine.proofs.Feeds.{feed_step, turn_stream}
-use Rattle.engine_laws.specs.Split.{on_start, on_closed, fed_aimed}
-use Rattle.engine_laws.specs.Cut.{Quiet, Room, Streaming, want_at, fed_left, cut_quiet, quiet_on, quiet_steady, within_told, within_stays}
+use Rattle.engine_laws.specs.Cut.{Quiet, Room, Streaming, want_at, fed_left, cut_quiet, within_told, within_stays}
 use Rattle.engine_laws.specs.Whole.{at_said, at_request, emptied_at, then_nil, header_done, roomed, frame_done, lead, header_front}
 use Rattle.promises.specs.Aside.{fed_aside, finishes_over}
 use Rattle.promises.specs.Cuts.{Lays, At, Smooth, front_at, frame_smooth}
-use Rattle.promises.specs.Flash.{flush_still, write_still, free_view}
+use Rattle.promises.specs.Flash.{flush_still}
 
 -- ---- a reply that waits
 
@@ -211,11 +209,11 @@ pub record Landed (p c : List ℕ) (o : Out) : Type 0 where
 abbrev pub placed_at : ℕ → List ℕ → List ℕ → List ℕ
 placed_at B p c = take B c ++ p ++ drop (B + length p) c
 
-placed_none : (B : ℕ) (c : List ℕ) → placed_at B [] c ≡ c
+pub placed_none : (B : ℕ) (c : List ℕ) → placed_at B [] c ≡ c
 placed_none B c = rw (append-nil (take B c), add-zero B) (take-append-drop B c)
 
 -- the end of a stream that took every byte
-landed : (g : Given) (u : World) (p : List ℕ) → Quiet g u → length u.reply ≡ 4112 → u.e.frame ≡ record { len = 0; total = 0 } → u.e.up.left ≡ 0 → u.e.up.crc ≡ crc32 p
+pub landed : (g : Given) (u : World) (p : List ℕ) → Quiet g u → length u.reply ≡ 4112 → u.e.frame ≡ record { len = 0; total = 0 } → u.e.up.left ≡ 0 → u.e.up.crc ≡ crc32 p
     → u.e.up.burn ≡ 0 → Landed p (view (dev_of u)) (finishes g.lent u)
 unfolding replied
 landed g u p q y f l c b =
@@ -230,7 +228,7 @@ landed g u p q y f l c b =
 module _ (g : Given) (v : World) (B : ℕ) (c : List ℕ) (a : Ready B c v) (q : Quiet g v) (r : length v.request ≡ 8208) (y : length v.reply ≡ 4112) (p f : List ℕ) (k : SendFrame p f)
     (i : B + length p ≤ length v.chip) (j : B + length p ≤ v.e.store.shape.capacity) where
   -- the stream is open
-  abbrev opened : World
+  abbrev pub opened : World
   opened = at_e (with_up (started (length p) v.e.up) (emptied v.e)) (at_request (sets v.request 0 k.head) v)
 
   short_payload : length p < 2 ^ 32
@@ -249,19 +247,9 @@ module _ (g : Given) (v : World) (B : ℕ) (c : List ℕ) (a : Ready B c v) (q :
       header_done g v a.left k.head k.sixteen (omega arith) ∙ ap (headed_by g (grown (emptied_at v) k.head)) send_next
       ∙ ap (λ (b : Bool). cond b (streamed_by g.lent opened) (ends 0x12 fail (at_request (sets v.request 0 k.head) (emptied_at v)))) a.valid
 
-  shown : view (dev_of v) ≡ c
-  shown = free_view g.lent (dev_of v) q a.held ∙ a.chip
-
   -- the payload is none
-  none_is : p ≡ [] → feeds g (emptied_at v) k.head ≡ finishes g.lent opened
+  pub none_is : p ≡ [] → feeds g (emptied_at v) k.head ≡ finishes g.lent opened
   none_is e = send_head ∙ ap (λ (b : Bool). cond b (finishes g.lent opened) (out_of 0 opened)) (eq-eqb (length p) 0 (ap length e))
-
-  send_none : p ≡ [] → Landed p (placed_at B p c) (feeds g (emptied_at v) k.head)
-  unfolding crc32
-  send_none e =
-      let n : length p ≡ 0 = ap length e in
-      let s : view (dev_of v) ≡ placed_at B p c = shown ∙ sym (placed_none B c) ∙ ap (λ (x : List ℕ). placed_at B x c) (sym e) in
-      subst (Landed p (placed_at B p c)) (sym (none_is e)) (subst (λ (x : List ℕ). Landed p x (finishes g.lent opened)) s (landed g opened p q y refl n (sym p9 ∙ ap crc32 (sym e)) refl))
 
   -- the payload is some
   module _ (s : 0 < length p) where
@@ -276,38 +264,9 @@ module _ (g : Given) (v : World) (B : ℕ) (c : List ℕ) (a : Ready B c v) (q :
     room_open : Room g (feeds g (emptied_at v) k.head).w
     room_open = subst (λ (o : Out). Room g o.w) (sym send_open) (λ n t. streaming.room t)
 
-    send_cut : (x : List ℕ) → feeds g (emptied_at v) (k.head ++ x) ≡ feeds g opened x
+    pub send_cut : (x : List ℕ) → feeds g (emptied_at v) (k.head ++ x) ≡ feeds g opened x
     send_cut x =
         cut_quiet g (emptied_at v) k.head x q (ap (λ (o : Out). o.status) send_open) room_open ∙ ap (λ (o : Out). feeds g o.w x) send_open
-
-    -- all of it is stored
-    abbrev all : Told
-    all = writing g.lent (v.e.up.target + 0) p (dev_of v)
-
-    abbrev full : World
-    full = fed_by opened p all
-
-    full_is : feeds g opened p ≡ finishes g.lent full
-    full_is = stream_whole g opened p s refl ∙ ap (finishes g.lent) (fed_aimed g.lent opened p a.aimed)
-
-    full_quiet : Quiet g full
-    full_quiet = let d = dev_of v in quiet_on g opened full q ((on_closed g.lent d).write (v.e.up.target + 0) p d (on_start g.lent d (quiet_steady g v q)))
-
-    stored : (all.count ≡ length p) × (view all.dev ≡ placed_at (v.e.up.target + 0) p (view (dev_of v)))
-    stored = let t = a.target in write_still g.lent (dev_of v) q (v.e.up.target + 0) p (omega arith) (omega arith)
-
-    full_burn : burn_by 0 all.count (length p) ≡ 0
-    unfolding burn_by
-    full_burn = ap (λ (b : Bool). cond b 0 (cond (eqb 0 0) 1 0)) (eq-eqb all.count (length p) stored.0)
-
-    send_some : Landed p (placed_at B p c) (feeds g (emptied_at v) (k.head ++ p))
-    unfolding crc32
-    send_some =
-        let t : v.e.up.target + 0 ≡ B = omega (arith, a.target) in
-        let e : view all.dev ≡ placed_at B p c = stored.1 ∙ rw (t, shown) in
-        let n : length p - length p ≡ 0 = omega arith in
-        subst (Landed p (placed_at B p c)) (sym (send_cut p ∙ full_is))
-        (subst (λ (x : List ℕ). Landed p x (finishes g.lent full)) e (landed g full p full_quiet y refl n refl full_burn))
 
     -- a front that reaches into the payload
     payload_at : (x b : List ℕ) → x ++ b ≡ p → 0 < length b → At g (emptied_at v) (k.head ++ x) b
@@ -321,15 +280,6 @@ module _ (g : Given) (v : World) (B : ℕ) (c : List ℕ) (a : Ready B c v) (q :
           room = subst (λ (o : Out). Room g o.w) o (λ m t. (within_stays g opened x streaming n).room t);
           lays = subst (λ (o : Out). Lays g o.w b) o (stream_lays g (feeds g opened x).w b h (d.1.left ∙ omega arith));
         }
-
-  -- THE STEP: the payload is in flash at B, every other byte as it was, and the reply is OK with no data
-  pub send_done : Landed p (placed_at B p c) (feeds g (emptied_at v) f)
-  send_done = subst (λ (x : List ℕ). Landed p (placed_at B p c) (feeds g (emptied_at v) x)) (sym k.is) (go p refl)
-    where
-      go : (x : List ℕ) → p ≡ x → Landed p (placed_at B p c) (feeds g (emptied_at v) (k.head ++ p))
-      go [] e =
-          subst (λ (x : List ℕ). Landed p (placed_at B p c) (feeds g (emptied_at v) x)) (sym (append-nil k.head) ∙ ap (λ (x : List ℕ). k.head ++ x) (sym e)) (send_none e)
-      go (x ∷ xs) e = send_some (omega (arith, ap length e))
 
 ready_aside : (s : Said) (B : ℕ) (c : List ℕ) (v : World) → Ready B c v → Ready B c (at_said s v)
 ready_aside s B c v a =

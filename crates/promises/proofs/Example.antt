@@ -33,7 +33,8 @@ use Rattle.promises.specs.Frames.{Between}
 use Rattle.promises.specs.Cuts.{Answered}
 use Rattle.promises.specs.Update.{MetaFrame, SendFrame, Landed, placed_at}
 use Rattle.promises.specs.Queries.{crc, burn, Queries, Replied}
-use Rattle.promises.specs.Promise.{here, promise, promise_queries}
+use Rattle.promises.specs.Promise.{here}
+use Rattle.promises.proofs.Promise.{promise, promise_queries}
 
 -- ---- the engine, and what went before
 
