@@ -5,15 +5,18 @@ use crate::packets::packet;
 use crate::parts::{first, half, upto};
 use crate::state::{Lab, with_engine};
 use engine::api::Got;
+use std::io;
+use std::io::Write;
 
 // A write's line: its status, or the refusal.
-fn told_write(n: u64, status: u8) {
-    told_count(n, b"write", status, status as usize);
-    end_line();
+fn told_write<W: Write>(to: &mut W, n: u64, status: u8) -> io::Result<()> {
+    told_count(to, n, b"write", status, status as usize)?;
+    end_line(to)
 }
 
 // The body is written to the engine, in one call.
-fn write(
+fn write<W: Write>(
+    to: &mut W,
     n: u64,
     lab: Lab,
     body: &[u8],
@@ -26,7 +29,7 @@ fn write(
     offsets: &[u64],
     sizes: &[u64],
     lens: &[u64],
-) -> Lab {
+) -> io::Result<Lab> {
     let o = lab.o;
     let a = engine::api::write(
         lab.e,
@@ -44,29 +47,30 @@ fn write(
         reply,
         body,
     );
-    told_write(n, a.status);
-    with_engine(o, a.e, lab.port)
+    told_write(to, n, a.status)?;
+    Ok(with_engine(o, a.e, lab.port))
 }
 
 // A read's line: the count and the bytes, or the refusal.
-fn told_read(n: u64, got: Got, room: &[u8]) {
+fn told_read<W: Write>(to: &mut W, n: u64, got: Got, room: &[u8]) -> io::Result<()> {
     match got {
         Got::Refused => {
-            told_count(n, b"read", 9, 0);
+            told_count(to, n, b"read", 9, 0)?;
         }
         Got::Count(count) => {
-            told_count(n, b"read", 0, count);
+            told_count(to, n, b"read", 0, count)?;
             if 0 < count {
-                record::text(b" ");
-                record::hex(upto(room, count));
+                record::text(to, b" ")?;
+                record::hex(to, upto(room, count))?;
             }
         }
     }
-    end_line();
+    end_line(to)
 }
 
 // The engine's reply is read into a room.
-fn read(
+fn read<W: Write>(
+    to: &mut W,
     n: u64,
     lab: Lab,
     opening: &[u8],
@@ -79,7 +83,7 @@ fn read(
     sizes: &[u64],
     lens: &[u64],
     room: &mut [u8],
-) -> Lab {
+) -> io::Result<Lab> {
     let o = lab.o;
     let a = engine::api::read(
         lab.e,
@@ -96,36 +100,36 @@ fn read(
         room,
     );
     let got = a.got;
-    told_read(n, got, room);
-    with_engine(o, a.e, lab.port)
+    told_read(to, n, got, room)?;
+    Ok(with_engine(o, a.e, lab.port))
 }
 
 // The engine is reset, and nothing else.
-fn reset(n: u64, lab: Lab) -> Lab {
-    line(n, b"reset\n");
-    with_engine(lab.o, engine::api::cleared(lab.e), lab.port)
+fn reset<W: Write>(to: &mut W, n: u64, lab: Lab) -> io::Result<Lab> {
+    line(to, n, b"reset\n")?;
+    Ok(with_engine(lab.o, engine::api::cleared(lab.e), lab.port))
 }
 
 // A flag as 0 or 1.
-fn flag(is: bool) {
+fn flag<W: Write>(to: &mut W, is: bool) -> io::Result<()> {
     if is {
-        and_number(1);
-        return;
+        return and_number(to, 1);
     }
-    and_number(0);
+    and_number(to, 0)
 }
 
 // Both flags.
-fn flags(n: u64, lab: Lab) -> Lab {
-    line(n, b"flags");
-    flag(engine::api::is_upgrading(lab.e));
-    flag(engine::api::is_asked(lab.e));
-    end_line();
-    lab
+fn flags<W: Write>(to: &mut W, n: u64, lab: Lab) -> io::Result<Lab> {
+    line(to, n, b"flags")?;
+    flag(to, engine::api::is_upgrading(lab.e))?;
+    flag(to, engine::api::is_asked(lab.e))?;
+    end_line(to)?;
+    Ok(lab)
 }
 
 // A call on an open engine, over rooms as long as its opening said.
-pub fn on_engine(
+pub fn on_engine<W: Write>(
+    to: &mut W,
     n: u64,
     kind: u16,
     lab: Lab,
@@ -140,14 +144,15 @@ pub fn on_engine(
     offsets: &[u64],
     sizes: &[u64],
     lens: &[u64],
-) -> Lab {
+) -> io::Result<Lab> {
     match kind {
         1 => write(
-            n, lab, body, opening, request, reply, chip, buffer, scratch, offsets, sizes, lens,
+            to, n, lab, body, opening, request, reply, chip, buffer, scratch, offsets, sizes, lens,
         ),
         2 => {
             let room = half(body, 0);
             read(
+                to,
                 n,
                 lab,
                 opening,
@@ -162,8 +167,9 @@ pub fn on_engine(
                 first(out, room),
             )
         }
-        3 => reset(n, lab),
+        3 => reset(to, n, lab),
         4 => packet(
+            to,
             n,
             lab,
             body,
@@ -178,6 +184,6 @@ pub fn on_engine(
             sizes,
             lens,
         ),
-        _ => flags(n, lab),
+        _ => flags(to, n, lab),
     }
 }

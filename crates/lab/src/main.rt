@@ -21,6 +21,8 @@ use crate::parts::{first, first_numbers, from, half, upto};
 use crate::state::{Lab, Stepped, bad, closed, none, on};
 use crate::stores::on_storage;
 use record::Next;
+use std::io;
+use std::io::{BufReader, BufWriter, Read, Write};
 use storage::types::Store;
 use wire::bytes::{put, u32_at};
 
@@ -57,34 +59,40 @@ fn shape_ok(kind: u16, body: &[u8]) -> bool {
 }
 
 // Bytes are set in scratch, where they lie inside it.
-fn poke(n: u64, lab: Lab, scratch: &mut [u8], body: &[u8]) -> Stepped {
+fn poke<W: Write>(
+    to: &mut W,
+    n: u64,
+    lab: Lab,
+    scratch: &mut [u8],
+    body: &[u8],
+) -> io::Result<Stepped> {
     let place = u32_at(body, 0) as usize;
     let xs = from(body, 4);
     if scratch.len() < place {
-        return bad(n, lab);
+        return bad(to, n, lab);
     }
     if scratch.len() - place < xs.len() {
-        return bad(n, lab);
+        return bad(to, n, lab);
     }
     put(scratch, place, xs);
-    line(n, b"poke\n");
-    on(lab)
+    line(to, n, b"poke\n")?;
+    Ok(on(lab))
 }
 
 // The number of chip calls, the checksums of chip and scratch, and what is held.
-fn look(n: u64, s: Store, chip: &[u8], scratch: &[u8]) {
-    line(n, b"look");
-    and_number(s.calls);
-    record::text(b" ");
-    record::word(wire::crc::crc32_update(0, chip));
-    record::text(b" ");
-    record::word(wire::crc::crc32_update(0, scratch));
+fn look<W: Write>(to: &mut W, n: u64, s: Store, chip: &[u8], scratch: &[u8]) -> io::Result<()> {
+    line(to, n, b"look")?;
+    and_number(to, s.calls)?;
+    record::text(to, b" ")?;
+    record::word(to, wire::crc::crc32_update(0, chip))?;
+    record::text(to, b" ")?;
+    record::word(to, wire::crc::crc32_update(0, scratch))?;
     if s.held {
-        and_number(s.at);
+        and_number(to, s.at)?;
     } else {
-        record::text(b" none");
+        record::text(to, b" none")?;
     }
-    end_line();
+    end_line(to)
 }
 
 // Does what is open take this kind: a storage 32 to 38, an engine 1 to 5.
@@ -99,7 +107,8 @@ fn takes(open: u16, kind: u16) -> bool {
 }
 
 // A call on what is open, with as much of each room as its opening says.
-fn call(
+fn call<W: Write>(
+    to: &mut W,
     n: u64,
     kind: u16,
     lab: Lab,
@@ -114,7 +123,7 @@ fn call(
     offsets_room: &[u64],
     sizes_room: &[u64],
     lens_room: &[u64],
-) -> Lab {
+) -> io::Result<Lab> {
     let o = lab.o;
     let b = buffer_len(o);
     let offsets = first_numbers(offsets_room, o.offsets);
@@ -122,6 +131,7 @@ fn call(
     let lens = first_numbers(lens_room, o.lens);
     if lab.open == 16 {
         return on_storage(
+            to,
             n,
             kind,
             lab,
@@ -137,6 +147,7 @@ fn call(
         );
     }
     on_engine(
+        to,
         n,
         kind,
         lab,
@@ -155,7 +166,8 @@ fn call(
 }
 
 // A record of the right shape that is no opening.
-fn asked(
+fn asked<W: Write>(
+    to: &mut W,
     n: u64,
     kind: u16,
     lab: Lab,
@@ -170,30 +182,31 @@ fn asked(
     offsets: &[u64],
     sizes: &[u64],
     lens: &[u64],
-) -> Stepped {
+) -> io::Result<Stepped> {
     let o = lab.o;
     let scratch = first(scratch_room, o.scratch);
     if lab.open == 0 {
-        return none(n, lab);
+        return none(to, n, lab);
     }
     if kind == 40 {
-        look(n, lab.e.store, upto(chip, o.chip), scratch);
-        return on(lab);
+        look(to, n, lab.e.store, upto(chip, o.chip), scratch)?;
+        return Ok(on(lab));
     }
     if kind == 39 {
-        return poke(n, lab, scratch, body);
+        return poke(to, n, lab, scratch, body);
     }
     if !takes(lab.open, kind) {
-        return none(n, lab);
+        return none(to, n, lab);
     }
-    on(call(
-        n, kind, lab, body, opening, request, reply, chip, buffer, scratch, out, offsets, sizes,
-        lens,
-    ))
+    Ok(on(call(
+        to, n, kind, lab, body, opening, request, reply, chip, buffer, scratch, out, offsets,
+        sizes, lens,
+    )?))
 }
 
 // A record, whatever is open.
-fn one(
+fn one<W: Write>(
+    to: &mut W,
     n: u64,
     kind: u16,
     lab: Lab,
@@ -208,54 +221,47 @@ fn one(
     offsets: &mut [u64],
     sizes: &mut [u64],
     lens: &mut [u64],
-) -> Stepped {
+) -> io::Result<Stepped> {
     if 16 <= kind {
         if kind <= 17 {
             return open::open(
-                n, kind, lab, body, opening, request, reply, chip, buffer, scratch, offsets, sizes,
-                lens,
+                to, n, kind, lab, body, opening, request, reply, chip, buffer, scratch, offsets,
+                sizes, lens,
             );
         }
     }
     if !shape_ok(kind, body) {
-        return bad(n, lab);
+        return bad(to, n, lab);
     }
     asked(
-        n, kind, lab, body, opening, request, reply, chip, buffer, scratch, out, offsets, sizes,
-        lens,
+        to, n, kind, lab, body, opening, request, reply, chip, buffer, scratch, out, offsets,
+        sizes, lens,
     )
 }
 
 // Record after record, up to the end or to a malformed one.
-fn main() {
-    let mut body_room = [0u8; 131072];
-    let body: &mut [u8] = &mut body_room;
-    let mut opening_room = [0u8; 131072];
-    let opening: &mut [u8] = &mut opening_room;
-    let mut request_room = [0u8; 16384];
-    let request: &mut [u8] = &mut request_room;
-    let mut reply_room = [0u8; 16384];
-    let reply: &mut [u8] = &mut reply_room;
-    let mut chip_room = [0u8; 1048576];
-    let chip: &mut [u8] = &mut chip_room;
-    let mut buffer_room = [0u8; 1048576];
-    let buffer: &mut [u8] = &mut buffer_room;
-    let mut scratch_room = [0u8; 65536];
-    let scratch: &mut [u8] = &mut scratch_room;
-    let mut out_room = [0u8; 65536];
-    let out: &mut [u8] = &mut out_room;
-    let mut offsets_room = [0u64; 16384];
-    let offsets: &mut [u64] = &mut offsets_room;
-    let mut sizes_room = [0u64; 16384];
-    let sizes: &mut [u64] = &mut sizes_room;
-    let mut lens_room = [0u64; 16384];
-    let lens: &mut [u64] = &mut lens_room;
-    let mut lab = closed(opening_of(b""));
-    let mut n: u64 = 0;
-    while n < 0xFFFF_FFFF_FFFF_FFFF {
-        match record::read_record(body) {
+fn run<R: Read, W: Write>(
+    input: &mut R,
+    to: &mut W,
+    start: Lab,
+    body: &mut [u8],
+    opening: &mut [u8],
+    request: &mut [u8],
+    reply: &mut [u8],
+    chip: &mut [u8],
+    buffer: &mut [u8],
+    scratch: &mut [u8],
+    out: &mut [u8],
+    offsets: &mut [u64],
+    sizes: &mut [u64],
+    lens: &mut [u64],
+) -> io::Result<()> {
+    let mut lab = start;
+    for n in 0..u64::MAX {
+        match record::read_record(input, body)? {
             Next::Record { kind, length } => {
                 let s = one(
+                    to,
                     n,
                     kind,
                     lab,
@@ -270,21 +276,53 @@ fn main() {
                     offsets,
                     sizes,
                     lens,
-                );
+                )?;
                 if !s.go {
-                    return;
+                    return Ok(());
                 }
                 let next = s.lab;
                 lab = next;
             }
             Next::Bad => {
-                line(n, b"bad\n");
-                return;
+                return line(to, n, b"bad\n");
             }
             Next::End => {
-                return;
+                return Ok(());
             }
         }
-        n += 1;
     }
+    Ok(())
+}
+
+fn main(rt: HostRuntime) -> io::Result<()> {
+    let mut input = BufReader::new(rt.alloc(), rt.stdin())?;
+    let mut to = BufWriter::new(rt.alloc(), rt.stdout())?;
+    let mut body_room = [0u8; 131072];
+    let mut opening_room = [0u8; 131072];
+    let mut request_room = [0u8; 16384];
+    let mut reply_room = [0u8; 16384];
+    let mut chip_room = [0u8; 1048576];
+    let mut buffer_room = [0u8; 1048576];
+    let mut scratch_room = [0u8; 65536];
+    let mut out_room = [0u8; 65536];
+    let mut offsets_room = [0u64; 16384];
+    let mut sizes_room = [0u64; 16384];
+    let mut lens_room = [0u64; 16384];
+    run(
+        &mut input,
+        &mut to,
+        closed(opening_of(b"")),
+        &mut body_room,
+        &mut opening_room,
+        &mut request_room,
+        &mut reply_room,
+        &mut chip_room,
+        &mut buffer_room,
+        &mut scratch_room,
+        &mut out_room,
+        &mut offsets_room,
+        &mut sizes_room,
+        &mut lens_room,
+    )?;
+    to.flush()
 }

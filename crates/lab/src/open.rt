@@ -3,6 +3,8 @@ use crate::lines::{and_number, end_line, line};
 use crate::opening::{Opening, buffer_len, marks_of, names_of, opening_of, opening_ok};
 use crate::parts::{filled, first, first_numbers, from, half, numbers, upto, zeros};
 use crate::state::{Lab, Stepped, bad, closed, on, with_engine, with_store};
+use std::io;
+use std::io::Write;
 use storage::open::Opened;
 use transport::port::start;
 use wire::bytes::put;
@@ -112,38 +114,44 @@ fn opens_engine(
 }
 
 // An opening's line: 0, or the number of the refusal.
-fn told(n: u64, number: u8) {
-    line(n, b"open");
-    and_number(number as u64);
-    end_line();
+fn told<W: Write>(to: &mut W, n: u64, number: u8) -> io::Result<()> {
+    line(to, n, b"open")?;
+    and_number(to, number as u64)?;
+    end_line(to)
 }
 
 // What a storage's opening prints and leaves.
-fn opened_storage(n: u64, o: Opening, answer: Opened) -> Lab {
+fn opened_storage<W: Write>(to: &mut W, n: u64, o: Opening, answer: Opened) -> io::Result<Lab> {
     match answer {
         Opened::Ready(store) => {
-            told(n, 0);
-            with_store(o, store)
+            told(to, n, 0)?;
+            Ok(with_store(o, store))
         }
         Opened::Refused(number) => {
-            told(n, number);
-            closed(o)
+            told(to, n, number)?;
+            Ok(closed(o))
         }
     }
 }
 
 // What an engine's opening prints and leaves.
-fn opened_engine(n: u64, o: Opening, answer: engine::api::Opening) -> Lab {
-    told(n, answer.number);
+fn opened_engine<W: Write>(
+    to: &mut W,
+    n: u64,
+    o: Opening,
+    answer: engine::api::Opening,
+) -> io::Result<Lab> {
+    told(to, n, answer.number)?;
     if answer.number != 0 {
-        return closed(o);
+        return Ok(closed(o));
     }
-    with_engine(o, answer.e, start())
+    Ok(with_engine(o, answer.e, start()))
 }
 
 // A storage (kind 16) or an engine is opened on what the record says. The room for sent packets, of which
 // the engine knows nothing, is tested here.
-fn opened(
+fn opened<W: Write>(
+    to: &mut W,
     n: u64,
     kind: u16,
     body: &[u8],
@@ -156,7 +164,7 @@ fn opened(
     offsets_room: &[u64],
     sizes_room: &[u64],
     lens_room: &[u64],
-) -> Lab {
+) -> io::Result<Lab> {
     let chip = upto(chip_room, o.chip);
     let buffer = upto(buffer_room, buffer_len(o));
     let scratch = upto(scratch_room, o.scratch);
@@ -165,22 +173,23 @@ fn opened(
     let lens = first_numbers(lens_room, o.lens);
     if kind == 16 {
         let answer = opens_storage(body, o, chip, buffer, scratch, offsets, sizes, lens);
-        return opened_storage(n, o, answer);
+        return opened_storage(to, n, o, answer);
     }
     if o.sent < 4125 {
-        told(n, 9);
-        return closed(o);
+        told(to, n, 9)?;
+        return Ok(closed(o));
     }
     let request = upto(request_room, o.request);
     let reply = upto(reply_room, o.reply);
     let answer = opens_engine(
         body, o, request, reply, chip, buffer, scratch, offsets, sizes, lens,
     );
-    opened_engine(n, o, answer)
+    opened_engine(to, n, o, answer)
 }
 
 // The rooms are prepared and the opening is tried.
-fn begin(
+fn begin<W: Write>(
+    to: &mut W,
     n: u64,
     kind: u16,
     body: &[u8],
@@ -194,16 +203,17 @@ fn begin(
     offsets: &mut [u64],
     sizes: &mut [u64],
     lens: &mut [u64],
-) -> Lab {
+) -> io::Result<Lab> {
     begun(body, o, opening, request, reply, chip, buffer, scratch);
     listed(body, offsets, sizes, lens);
     opened(
-        n, kind, body, o, request, reply, chip, buffer, scratch, offsets, sizes, lens,
+        to, n, kind, body, o, request, reply, chip, buffer, scratch, offsets, sizes, lens,
     )
 }
 
 // An opening's record; a well-formed one ends what was open.
-pub fn open(
+pub fn open<W: Write>(
+    to: &mut W,
     n: u64,
     kind: u16,
     lab: Lab,
@@ -217,12 +227,12 @@ pub fn open(
     offsets: &mut [u64],
     sizes: &mut [u64],
     lens: &mut [u64],
-) -> Stepped {
+) -> io::Result<Stepped> {
     let o = opening_of(body);
     if !opening_ok(body, o) {
-        return bad(n, lab);
+        return bad(to, n, lab);
     }
-    on(begin(
-        n, kind, body, o, opening, request, reply, chip, buffer, scratch, offsets, sizes, lens,
-    ))
+    Ok(on(begin(
+        to, n, kind, body, o, opening, request, reply, chip, buffer, scratch, offsets, sizes, lens,
+    )?))
 }

@@ -5,13 +5,15 @@ use crate::lines::{end_line, line, told_count};
 use crate::opening::{faults_of, marks_of, names_of, table_of};
 use crate::parts::{from, upto};
 use crate::state::{Lab, with_engine};
+use std::io;
+use std::io::Write;
 use transport::port::{Mode, Port};
 
 // A line for a packet that was sent.
-fn sent_line(n: u64, bytes: &[u8]) {
-    line(n, b"in ");
-    record::hex(bytes);
-    end_line();
+fn sent_line<W: Write>(to: &mut W, n: u64, bytes: &[u8]) -> io::Result<()> {
+    line(to, n, b"in ")?;
+    record::hex(to, bytes)?;
+    end_line(to)
 }
 
 // How many bytes the next packet of data has.
@@ -22,21 +24,23 @@ fn least(left: usize) -> usize
 }
 
 // A line for each packet of data: 512 bytes, and a rest.
-fn data_lines(n: u64, bytes: &[u8]) {
+fn data_lines<W: Write>(to: &mut W, n: u64, bytes: &[u8]) -> io::Result<()> {
     let mut at: usize = 0;
     while at < bytes.len() {
         let end = at + least(bytes.len() - at);
-        sent_line(n, &bytes[at..end]);
+        sent_line(to, n, &bytes[at..end])?;
         at = end;
     }
+    Ok(())
 }
 
 // What was sent: the data in packets, then the CSW.
-fn told_sent(n: u64, sent: &[u8], moved: usize, csw: bool) {
-    data_lines(n, upto(sent, moved));
+fn told_sent<W: Write>(to: &mut W, n: u64, sent: &[u8], moved: usize, csw: bool) -> io::Result<()> {
+    data_lines(to, n, upto(sent, moved))?;
     if csw {
-        sent_line(n, upto(from(sent, moved), 13));
+        sent_line(to, n, upto(from(sent, moved), 13))?;
     }
+    Ok(())
 }
 
 // Is the session closed.
@@ -50,7 +54,8 @@ fn is_closed(port: Port) -> bool {
 }
 
 // A packet to a session that is not closed.
-fn stepped(
+fn stepped<W: Write>(
+    to: &mut W,
     n: u64,
     lab: Lab,
     body: &[u8],
@@ -64,7 +69,7 @@ fn stepped(
     offsets: &[u64],
     sizes: &[u64],
     lens: &[u64],
-) -> Lab {
+) -> io::Result<Lab> {
     let o = lab.o;
     let a = transport::step::step(
         lab.port,
@@ -84,14 +89,15 @@ fn stepped(
         sent,
         body,
     );
-    told_count(n, b"packet", a.number, body.len());
-    end_line();
-    told_sent(n, sent, a.moved, a.csw);
-    with_engine(o, a.e, a.port)
+    told_count(to, n, b"packet", a.number, body.len())?;
+    end_line(to)?;
+    told_sent(to, n, sent, a.moved, a.csw)?;
+    Ok(with_engine(o, a.e, a.port))
 }
 
 // A packet. What it sends stands in the room of sent packets.
-pub fn packet(
+pub fn packet<W: Write>(
+    to: &mut W,
     n: u64,
     lab: Lab,
     body: &[u8],
@@ -105,12 +111,13 @@ pub fn packet(
     offsets: &[u64],
     sizes: &[u64],
     lens: &[u64],
-) -> Lab {
+) -> io::Result<Lab> {
     if is_closed(lab.port) {
-        line(n, b"closed\n");
-        return lab;
+        line(to, n, b"closed\n")?;
+        return Ok(lab);
     }
     stepped(
-        n, lab, body, opening, request, reply, chip, buffer, scratch, sent, offsets, sizes, lens,
+        to, n, lab, body, opening, request, reply, chip, buffer, scratch, sent, offsets, sizes,
+        lens,
     )
 }

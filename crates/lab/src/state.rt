@@ -2,6 +2,8 @@
 use crate::lines::line;
 use crate::opening::Opening;
 use engine::types::{Engine, Frame, Said, Update};
+use std::io;
+use std::io::Write;
 use storage::types::{Erased, Kind, Shape, Store};
 use transport::port::{Port, start};
 
@@ -98,16 +100,16 @@ pub fn on(lab: Lab) -> Stepped {
 }
 
 // A malformed record ends the run.
-pub fn bad(n: u64, lab: Lab) -> Stepped {
-    line(n, b"bad\n");
-    Stepped {
+pub fn bad<W: Write>(to: &mut W, n: u64, lab: Lab) -> io::Result<Stepped> {
+    line(to, n, b"bad\n")?;
+    Ok(Stepped {
         go: false,
         lab: lab,
-    }
+    })
 }
 
 // A call where nothing is open that takes it.
-pub fn none(n: u64, lab: Lab) -> Stepped {
-    line(n, b"none\n");
-    on(lab)
+pub fn none<W: Write>(to: &mut W, n: u64, lab: Lab) -> io::Result<Stepped> {
+    line(to, n, b"none\n")?;
+    Ok(on(lab))
 }

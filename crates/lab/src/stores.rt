@@ -3,11 +3,20 @@ use crate::lines::{and_number, end_line, line, told_count, told_status};
 use crate::opening::{faults_of, marks_of, names_of};
 use crate::parts::{first, from, half, upto};
 use crate::state::{Lab, with_store};
+use std::io;
+use std::io::Write;
 use storage::partition::Found;
 use wire::bytes::{u32_at, u64_at};
 
 // Kind 32.
-fn flush(n: u64, lab: Lab, opening: &[u8], chip: &mut [u8], buffer: &mut [u8]) -> Lab {
+fn flush<W: Write>(
+    to: &mut W,
+    n: u64,
+    lab: Lab,
+    opening: &[u8],
+    chip: &mut [u8],
+    buffer: &mut [u8],
+) -> io::Result<Lab> {
     let o = lab.o;
     let a = storage::store::flush(
         lab.e.store,
@@ -16,12 +25,20 @@ fn flush(n: u64, lab: Lab, opening: &[u8], chip: &mut [u8], buffer: &mut [u8]) -
         chip,
         buffer,
     );
-    told_status(n, b"flush", a.status);
-    with_store(o, a.store)
+    told_status(to, n, b"flush", a.status)?;
+    Ok(with_store(o, a.store))
 }
 
 // Kind 33.
-fn erase(n: u64, lab: Lab, opening: &[u8], chip: &mut [u8], buffer: &mut [u8], body: &[u8]) -> Lab {
+fn erase<W: Write>(
+    to: &mut W,
+    n: u64,
+    lab: Lab,
+    opening: &[u8],
+    chip: &mut [u8],
+    buffer: &mut [u8],
+    body: &[u8],
+) -> io::Result<Lab> {
     let o = lab.o;
     let a = storage::store::erase(
         lab.e.store,
@@ -32,19 +49,20 @@ fn erase(n: u64, lab: Lab, opening: &[u8], chip: &mut [u8], buffer: &mut [u8], b
         u64_at(body, 0),
         u64_at(body, 8),
     );
-    told_status(n, b"erase", a.status);
-    with_store(o, a.store)
+    told_status(to, n, b"erase", a.status)?;
+    Ok(with_store(o, a.store))
 }
 
 // Kind 34: bytes are written.
-fn put_in(
+fn put_in<W: Write>(
+    to: &mut W,
     n: u64,
     lab: Lab,
     opening: &[u8],
     chip: &mut [u8],
     buffer: &mut [u8],
     body: &[u8],
-) -> Lab {
+) -> io::Result<Lab> {
     let o = lab.o;
     let a = storage::store::write(
         lab.e.store,
@@ -55,13 +73,14 @@ fn put_in(
         u64_at(body, 0),
         from(body, 8),
     );
-    told_count(n, b"put", a.status, a.count);
-    end_line();
-    with_store(o, a.store)
+    told_count(to, n, b"put", a.status, a.count)?;
+    end_line(to)?;
+    Ok(with_store(o, a.store))
 }
 
 // Kind 35: bytes are read into a room.
-fn get(
+fn get<W: Write>(
+    to: &mut W,
     n: u64,
     lab: Lab,
     opening: &[u8],
@@ -69,7 +88,7 @@ fn get(
     buffer: &mut [u8],
     room: &mut [u8],
     offset: u64,
-) -> Lab {
+) -> io::Result<Lab> {
     let o = lab.o;
     let a = storage::store::read(
         lab.e.store,
@@ -80,34 +99,43 @@ fn get(
         offset,
         room,
     );
-    told_count(n, b"get", a.status, a.count);
+    told_count(to, n, b"get", a.status, a.count)?;
     if 0 < a.count {
-        record::text(b" ");
-        record::hex(upto(room, a.count));
+        record::text(to, b" ")?;
+        record::hex(to, upto(room, a.count))?;
     }
-    end_line();
-    with_store(o, a.store)
+    end_line(to)?;
+    Ok(with_store(o, a.store))
 }
 
 // Kind 38: where a name's partition starts.
-fn at(n: u64, names: &[u8], offsets: &[u64], sizes: &[u64], lens: &[u64], body: &[u8]) {
-    line(n, b"at");
+fn at<W: Write>(
+    to: &mut W,
+    n: u64,
+    names: &[u8],
+    offsets: &[u64],
+    sizes: &[u64],
+    lens: &[u64],
+    body: &[u8],
+) -> io::Result<()> {
+    line(to, n, b"at")?;
     match storage::partition::lookup(offsets, sizes, lens, names, body) {
         Found::At(o) => {
-            and_number(o);
+            and_number(to, o)?;
         }
         Found::Nothing => {
-            record::text(b" nothing");
+            record::text(to, b" nothing")?;
         }
         Found::Refused => {
-            record::text(b" refused 9");
+            record::text(to, b" refused 9")?;
         }
     }
-    end_line();
+    end_line(to)
 }
 
 // Moves between scratch and the device.
-fn moved(
+fn moved<W: Write>(
+    to: &mut W,
     n: u64,
     kind: u16,
     lab: Lab,
@@ -116,7 +144,7 @@ fn moved(
     buffer: &mut [u8],
     scratch: &mut [u8],
     body: &[u8],
-) -> Lab {
+) -> io::Result<Lab> {
     let o = lab.o;
     let offset = u64_at(body, 0);
     let place = u32_at(body, 8) as usize;
@@ -135,9 +163,9 @@ fn moved(
             place,
             len,
         );
-        told_count(n, b"from", a.status, a.count);
-        end_line();
-        return with_store(o, a.store);
+        told_count(to, n, b"from", a.status, a.count)?;
+        end_line(to)?;
+        return Ok(with_store(o, a.store));
     }
     let a = storage::scratch::read_into_scratch(
         lab.e.store,
@@ -150,13 +178,14 @@ fn moved(
         place,
         len,
     );
-    told_count(n, b"into", a.status, a.count);
-    end_line();
-    with_store(o, a.store)
+    told_count(to, n, b"into", a.status, a.count)?;
+    end_line(to)?;
+    Ok(with_store(o, a.store))
 }
 
 // A call that changes the device.
-fn changes(
+fn changes<W: Write>(
+    to: &mut W,
     n: u64,
     kind: u16,
     lab: Lab,
@@ -164,16 +193,17 @@ fn changes(
     chip: &mut [u8],
     buffer: &mut [u8],
     body: &[u8],
-) -> Lab {
+) -> io::Result<Lab> {
     match kind {
-        32 => flush(n, lab, opening, chip, buffer),
-        33 => erase(n, lab, opening, chip, buffer, body),
-        _ => put_in(n, lab, opening, chip, buffer, body),
+        32 => flush(to, n, lab, opening, chip, buffer),
+        33 => erase(to, n, lab, opening, chip, buffer, body),
+        _ => put_in(to, n, lab, opening, chip, buffer, body),
     }
 }
 
 // A call on an open storage, over rooms as long as its opening said.
-pub fn on_storage(
+pub fn on_storage<W: Write>(
+    to: &mut W,
     n: u64,
     kind: u16,
     lab: Lab,
@@ -186,13 +216,14 @@ pub fn on_storage(
     offsets: &[u64],
     sizes: &[u64],
     lens: &[u64],
-) -> Lab {
+) -> io::Result<Lab> {
     if kind < 35 {
-        return changes(n, kind, lab, opening, chip, buffer, body);
+        return changes(to, n, kind, lab, opening, chip, buffer, body);
     }
     if kind == 35 {
         let room = half(body, 8);
         return get(
+            to,
             n,
             lab,
             opening,
@@ -203,8 +234,8 @@ pub fn on_storage(
         );
     }
     if kind == 38 {
-        at(n, names_of(opening, lab.o), offsets, sizes, lens, body);
-        return lab;
+        at(to, n, names_of(opening, lab.o), offsets, sizes, lens, body)?;
+        return Ok(lab);
     }
-    moved(n, kind, lab, opening, chip, buffer, scratch, body)
+    moved(to, n, kind, lab, opening, chip, buffer, scratch, body)
 }

@@ -6,6 +6,8 @@
 ghost use Rattle.std.specs.Prelude.{◌+◌, ◌≤◌, ◌<◌, length};
 
 use record::Next;
+use std::io;
+use std::io::{BufReader, BufWriter, Read, Write};
 use text::number::Number;
 use text::token::Place;
 use wire::bytes::{le4, le8, put, u16_at, u32_at, u64_at};
@@ -13,28 +15,29 @@ use wire::header::Header;
 use wire::packet::Cbw;
 
 // A word, and behind it bytes in hexadecimal, if there are any.
-fn word_and_hex(word: &[u8], s: &[u8]) {
-    record::text(word);
+fn word_and_hex<W: Write>(to: &mut W, word: &[u8], s: &[u8]) -> io::Result<()> {
+    record::text(to, word)?;
     if 0 < s.len() {
-        record::text(b" ");
-        record::hex(s);
+        record::text(to, b" ")?;
+        record::hex(to, s)?;
     }
+    Ok(())
 }
 
 // A word, and 1 or 0.
-fn word_and_flag(word: &[u8], flag: bool) {
-    record::text(word);
+fn word_and_flag<W: Write>(to: &mut W, word: &[u8], flag: bool) -> io::Result<()> {
+    record::text(to, word)?;
     if flag {
-        record::text(b" 1");
+        record::text(to, b" 1")
     } else {
-        record::text(b" 0");
+        record::text(to, b" 0")
     }
 }
 
 // A space and a number.
-fn and_number(n: u64) {
-    record::text(b" ");
-    record::decimal(n);
+fn and_number<W: Write>(to: &mut W, n: u64) -> io::Result<()> {
+    record::text(to, b" ")?;
+    record::decimal(to, n)
 }
 
 // The bytes from a place on, and none past the end.
@@ -104,66 +107,63 @@ fn bit(more: u8, first: u8, set: &[u8], t: usize, total: usize) -> u8
 }
 
 // Prints a digit for each four texts.
-fn texts(body: &[u8]) {
+fn texts<W: Write>(to: &mut W, body: &[u8]) -> io::Result<()> {
     if body.len() < 2 {
-        record::text(b"bad");
-        return;
+        return record::text(to, b"bad");
     }
     let more = body[0];
     let first = body[1];
     let set = &body[2..];
     let total = text_count(more, set);
-    record::text(b"texts");
-    and_number(total as u64);
-    record::text(b" ");
+    record::text(to, b"texts")?;
+    and_number(to, total as u64)?;
+    record::text(to, b" ")?;
     let mut t: usize = 0;
     while t < total {
         let a = bit(more, first, set, t, total);
         let b = bit(more, first, set, t + 1, total);
         let c = bit(more, first, set, t + 2, total);
         let d = bit(more, first, set, t + 3, total);
-        record::text(&[record::digit(a * 8 + b * 4 + c * 2 + d)]);
+        record::text(to, &[record::digit(a * 8 + b * 4 + c * 2 + d)])?;
         t += 4;
     }
+    Ok(())
 }
 
 // ---- text
 
-fn number(body: &[u8]) {
-    record::text(b"number");
+fn number<W: Write>(to: &mut W, body: &[u8]) -> io::Result<()> {
+    record::text(to, b"number")?;
     match text::number::parse(body) {
-        Number::Value(n) => {
-            and_number(n);
-        }
-        Number::Bad => {
-            record::text(b" bad");
-        }
+        Number::Value(n) => and_number(to, n),
+        Number::Bad => record::text(to, b" bad"),
     }
 }
 
-fn tokens(body: &[u8]) {
-    record::text(b"tokens ");
+fn tokens<W: Write>(to: &mut W, body: &[u8]) -> io::Result<()> {
+    record::text(to, b"tokens ")?;
     let mut at: usize = 0;
     let mut left: usize = 65536;
     while 0 < left {
-        record::hex(text::token::token(body, at));
+        record::hex(to, text::token::token(body, at))?;
         match text::token::place_after(body, at) {
             Place::At(p) => {
-                record::text(b"|");
+                record::text(to, b"|")?;
                 at = p;
             }
             Place::Done => {
-                return;
+                return Ok(());
             }
         }
         left -= 1;
     }
+    Ok(())
 }
 
 // ---- wire
 
-fn header(body: &[u8]) {
-    record::text(b"header ");
+fn header<W: Write>(to: &mut W, body: &[u8]) -> io::Result<()> {
+    record::text(to, b"header ")?;
     let magic = u32_at(body, 0);
     let pair = u16_at(body, 4);
     let length = u32_at(body, 6);
@@ -173,164 +173,162 @@ fn header(body: &[u8]) {
         (pair / 256 % 256) as u8,
         length,
     );
-    record::hex(&built);
+    record::hex(to, &built)
 }
 
-fn parsed(body: &[u8]) {
-    record::text(b"parsed");
+fn parsed<W: Write>(to: &mut W, body: &[u8]) -> io::Result<()> {
+    record::text(to, b"parsed")?;
     match wire::header::parse_header(body) {
-        Header::Bad => {
-            record::text(b" bad");
-        }
+        Header::Bad => record::text(to, b" bad"),
         Header::Request {
             command,
             status,
             length,
         } => {
-            and_number(command as u64);
-            and_number(status as u64);
-            and_number(length as u64);
+            and_number(to, command as u64)?;
+            and_number(to, status as u64)?;
+            and_number(to, length as u64)
         }
     }
 }
 
-fn cbw(body: &[u8]) {
-    record::text(b"cbw");
+fn cbw<W: Write>(to: &mut W, body: &[u8]) -> io::Result<()> {
+    record::text(to, b"cbw")?;
     match wire::packet::parse_cbw(body) {
-        Cbw::Bad => {
-            record::text(b" bad");
-        }
+        Cbw::Bad => record::text(to, b" bad"),
         Cbw::Command {
             tag,
             length,
             command,
         } => {
-            and_number(tag as u64);
-            and_number(length as u64);
-            and_number(command as u64);
+            and_number(to, tag as u64)?;
+            and_number(to, length as u64)?;
+            and_number(to, command as u64)
         }
     }
 }
 
-fn csw(body: &[u8]) {
-    record::text(b"csw ");
+fn csw<W: Write>(to: &mut W, body: &[u8]) -> io::Result<()> {
+    record::text(to, b"csw ")?;
     let status = (u16_at(body, 4) % 256) as u8;
     let made = wire::packet::csw(u32_at(body, 0), status, u32_at(body, 5));
-    record::hex(&made);
+    record::hex(to, &made)
 }
 
-fn words(body: &[u8]) {
+fn words<W: Write>(to: &mut W, body: &[u8]) -> io::Result<()> {
     let at = u64_at(body, 0) as usize;
     let s = from(body, 8);
-    record::text(b"words");
-    and_number(u16_at(s, at) as u64);
-    and_number(u32_at(s, at) as u64);
-    and_number(u64_at(s, at));
+    record::text(to, b"words")?;
+    and_number(to, u16_at(s, at) as u64)?;
+    and_number(to, u32_at(s, at) as u64)?;
+    and_number(to, u64_at(s, at))
 }
 
-fn laid(body: &[u8]) {
+fn laid<W: Write>(to: &mut W, body: &[u8]) -> io::Result<()> {
     let n = u64_at(body, 0);
     let m = u32_at(body, 0);
-    record::text(b"laid ");
-    record::hex(&le4(m));
-    record::text(b" ");
-    record::hex(&le8(n));
+    record::text(to, b"laid ")?;
+    record::hex(to, &le4(m))?;
+    record::text(to, b" ")?;
+    record::hex(to, &le8(n))
 }
 
 // The body holds a place, a count, as many bytes, and the room that they are laid in.
-fn put_in(body: &mut [u8]) {
+fn put_in<W: Write>(to: &mut W, body: &mut [u8]) -> io::Result<()> {
     let at = u64_at(body, 0) as usize;
     let n = (u16_at(body, 8) % 256) as usize;
     let mut some = [0u8; 256];
     put(&mut some, 0, upto(from(body, 9), n));
     let start = 9 + n;
     if body.len() < start {
-        record::text(b"bad");
-        return;
+        return record::text(to, b"bad");
     }
     put(&mut body[start..], at, upto(&some, n));
-    word_and_hex(b"put", from(body, start));
+    word_and_hex(to, b"put", from(body, start))
 }
 
 // ---- the records
 
-fn of_text(kind: u16, body: &[u8]) {
+fn of_text<W: Write>(to: &mut W, kind: u16, body: &[u8]) -> io::Result<()> {
     match kind {
-        1 => texts(body),
-        2 => word_and_flag(b"utf8", text::utf8::is_utf8(body)),
-        3 => word_and_hex(b"trim", text::trim::trim(body)),
-        4 => number(body),
-        5 => tokens(body),
-        6 => word_and_hex(b"before", text::token::before_semicolon(body)),
-        7 => word_and_hex(b"before", text::token::before_zero(body)),
-        _ => record::text(b"bad"),
+        1 => texts(to, body),
+        2 => word_and_flag(to, b"utf8", text::utf8::is_utf8(body)),
+        3 => word_and_hex(to, b"trim", text::trim::trim(body)),
+        4 => number(to, body),
+        5 => tokens(to, body),
+        6 => word_and_hex(to, b"before", text::token::before_semicolon(body)),
+        7 => word_and_hex(to, b"before", text::token::before_zero(body)),
+        _ => record::text(to, b"bad"),
     }
 }
 
 // Two texts in one body, behind the length of the first.
-fn of_two(kind: u16, body: &[u8]) {
+fn of_two<W: Write>(to: &mut W, kind: u16, body: &[u8]) -> io::Result<()> {
     let n = (u16_at(body, 0) % 256) as usize;
     let a = upto(from(body, 1), n);
     let b = from(body, 1 + n);
     if kind == 8 {
-        word_and_flag(b"same", text::token::same(a, b));
+        word_and_flag(to, b"same", text::token::same(a, b))
     } else {
-        word_and_flag(b"starts", text::token::starts_with(a, b));
+        word_and_flag(to, b"starts", text::token::starts_with(a, b))
     }
 }
 
-fn of_wire(kind: u16, body: &mut [u8]) {
+fn of_wire<W: Write>(to: &mut W, kind: u16, body: &mut [u8]) -> io::Result<()> {
     match kind {
         16 => {
-            record::text(b"crc ");
-            record::word(wire::crc::crc32_update(u32_at(body, 0), from(body, 4)));
+            record::text(to, b"crc ")?;
+            record::word(to, wire::crc::crc32_update(u32_at(body, 0), from(body, 4)))
         }
-        17 => header(body),
-        18 => parsed(body),
-        19 => cbw(body),
-        20 => csw(body),
-        21 => words(body),
-        22 => put_in(body),
-        23 => laid(body),
-        _ => record::text(b"bad"),
+        17 => header(to, body),
+        18 => parsed(to, body),
+        19 => cbw(to, body),
+        20 => csw(to, body),
+        21 => words(to, body),
+        22 => put_in(to, body),
+        23 => laid(to, body),
+        _ => record::text(to, b"bad"),
     }
 }
 
 // One record: 1 to 7 a text, 8 and 9 two texts, 16 to 23 words, checksums and wrappers.
-fn one(n: u64, kind: u16, body: &mut [u8]) {
-    record::decimal(n);
-    record::text(b" ");
+fn one<W: Write>(to: &mut W, n: u64, kind: u16, body: &mut [u8]) -> io::Result<()> {
+    record::decimal(to, n)?;
+    record::text(to, b" ")?;
     if kind < 8 {
-        of_text(kind, body);
-        record::text(b"\n");
-        return;
+        of_text(to, kind, body)?;
+        return record::text(to, b"\n");
     }
     if kind < 10 {
-        of_two(kind, body);
-        record::text(b"\n");
-        return;
+        of_two(to, kind, body)?;
+        return record::text(to, b"\n");
     }
-    of_wire(kind, body);
-    record::text(b"\n");
+    of_wire(to, kind, body)?;
+    record::text(to, b"\n")
 }
 
-fn main() {
-    let mut space = io::large_buffer();
-    let room: &mut [u8] = &mut space;
-    let mut n: u64 = 0;
-    while n < 0xFFFF_FFFF_FFFF_FFFF {
-        match record::read_record(room) {
+// Record after record, up to the end or to a malformed one.
+fn run<R: Read, W: Write>(input: &mut R, to: &mut W, room: &mut [u8]) -> io::Result<()> {
+    for n in 0..u64::MAX {
+        match record::read_record(input, room)? {
             Next::Record { kind, length } => {
-                one(n, kind, &mut room[0..length]);
+                one(to, n, kind, &mut room[0..length])?;
             }
             Next::Bad => {
-                record::text(b"bad\n");
-                return;
+                return record::text(to, b"bad\n");
             }
             Next::End => {
-                return;
+                return Ok(());
             }
         }
-        n += 1;
     }
+    Ok(())
+}
+
+fn main(rt: HostRuntime) -> io::Result<()> {
+    let mut input = BufReader::new(rt.alloc(), rt.stdin())?;
+    let mut to = BufWriter::new(rt.alloc(), rt.stdout())?;
+    let mut room = [0u8; 65536];
+    run(&mut input, &mut to, &mut room)?;
+    to.flush()
 }

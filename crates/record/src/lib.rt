@@ -1,15 +1,17 @@
-// What the programs share: records read from standard input, and the pieces of a line that is
-// printed. A record is a u32 body length, a u16 kind and the body, little-endian.
+// What the programs share: records read from an input, and the pieces of a line that is printed. A
+// record is a u32 body length, a u16 kind and the body, little-endian.
 #![tactic(auto)]
 
-ghost use Rattle.std.specs.Prelude.{◌≡◌, ◌+◌, ◌*◌, ◌≤◌, ◌<◌, min, length};
+ghost use Rattle.std.specs.Prelude.{◌≡◌, ◌+◌, ◌*◌, ◌≤◌, ◌<◌, min, length, IfOk, OnOk, decimal};
+ghost use Rattle.std.specs.Io.KnownBytes.{Appends};
 ghost use Rattle.record.specs.Record.{Within};
 
-use libc::{STDIN_FILENO, STDOUT_FILENO};
+use std::io;
+use std::io::{ErrorKind, Read, Write};
 use wire::bytes::{u16_at, u32_at};
 
-// What standard input has next: a record whose body stands at the start of the room, nothing that
-// makes a record, or its end.
+// What an input has next: a record whose body stands at the start of the room, nothing that makes a
+// record, or its end.
 #[derive(Clone, Copy)]
 pub enum Next {
     Record { kind: u16, length: usize },
@@ -17,28 +19,54 @@ pub enum Next {
     End,
 }
 
-// Reads the next record. A record that is cut off, or whose body the room cannot hold, is bad.
-pub fn read_record(room: &mut [u8]) -> Next
-    ensures { Within result (length room.new) }
+// Reads until the room is full or the input ends, and answers how many bytes it put at the start of
+// the room. A read that a signal interrupts is tried again.
+fn read_full<R: Read>(input: &mut R, room: &mut [u8]) -> io::Result<usize>
+    ensures read { IfOk result (λ done. done ≤ length room.new) }
+    ensures kept { length room.new ≡ length room.old }
+{
+    let mut done = 0;
+    for _ in 0..u64::MAX {
+        if room.len() <= done {
+            break;
+        }
+        match input.read(&mut room[done..]) {
+            Ok(0) => break,
+            Ok(n) => done += n,
+            Err(e) => {
+                if e.kind() != ErrorKind::Interrupted {
+                    return Err(e);
+                }
+            }
+        }
+    }
+    Ok(done)
+}
+
+// Reads the next record. A record that is cut off, or whose body the room cannot hold, is bad. The
+// error is a read's; the room may then hold some of the body.
+pub fn read_record<R: Read>(input: &mut R, room: &mut [u8]) -> io::Result<Next>
+    ensures read { IfOk result (λ next. Within next (length room.new)) }
+    ensures kept { length room.new ≡ length room.old }
 {
     let mut head = [0u8; 6];
-    let got = io::read_full(STDIN_FILENO, &mut head);
+    let got = read_full(input, &mut head)?;
     if got == 0 {
-        return Next::End;
+        return Ok(Next::End);
     }
     if got < 6 {
-        return Next::Bad;
+        return Ok(Next::Bad);
     }
     let length = u32_at(&head, 0) as usize;
     let kind = u16_at(&head, 4);
     if room.len() < length {
-        return Next::Bad;
+        return Ok(Next::Bad);
     }
-    let read = io::read_full(STDIN_FILENO, &mut room[..length]);
+    let read = read_full(input, &mut room[..length])?;
     if read < length {
-        return Next::Bad;
+        return Ok(Next::Bad);
     }
-    Next::Record { kind, length }
+    Ok(Next::Record { kind, length })
 }
 
 // Puts the digits of the bytes from a place on into `out`, as many as it holds, and answers how many
@@ -70,30 +98,36 @@ pub fn digit(n: u8) -> u8 {
     if d < 10 { 48 + d } else { 87 + d }
 }
 
-// Prints bytes as hexadecimal digits.
-pub fn hex(s: &[u8]) {
-    let mut room = io::buffer();
+// Prints bytes as hexadecimal digits. The error is a write's, here and below; some of what was to be
+// printed may then be written.
+pub fn hex<W: Write>(to: &mut W, s: &[u8]) -> io::Result<()> {
+    let mut room = [0u8; 4096];
     let out: &mut [u8] = &mut room;
     let mut at = 0;
     while at < s.len() {
         let n = spell(s, at, out);
         let end = 2 * n;
-        io::write_all(STDOUT_FILENO, &out[..end]);
+        to.write_all(&out[..end])?;
         at += n;
     }
+    Ok(())
 }
 
 // Prints bytes as they are.
-pub fn text(s: &[u8]) {
-    io::write_all(STDOUT_FILENO, s);
+pub fn text<W: Write>(to: &mut W, s: &[u8]) -> io::Result<()>
+    ensures { OnOk result (Appends (W.contents to.old) (W.contents to.new) s.now) }
+{
+    to.write_all(s)
 }
 
 // Prints a number in decimal.
-pub fn decimal(n: u64) {
-    io::print_decimal(STDOUT_FILENO, n);
+pub fn decimal<W: Write>(to: &mut W, n: u64) -> io::Result<()>
+    ensures { OnOk result (Appends (W.contents to.old) (W.contents to.new) (decimal n)) }
+{
+    write!(to, "{n}")
 }
 
 // Prints a number as eight hexadecimal digits.
-pub fn word(n: u32) {
-    io::print_hex(STDOUT_FILENO, n as u64, 8);
+pub fn word<W: Write>(to: &mut W, n: u32) -> io::Result<()> {
+    write!(to, "{n:08x}")
 }

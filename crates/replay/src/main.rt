@@ -7,6 +7,8 @@ ghost use Rattle.std.specs.Prelude.{◌≡◌, min};
 use engine::api::Got;
 use engine::types::Engine;
 use record::Next;
+use std::io;
+use std::io::{BufReader, BufWriter, Read, Write};
 use transport::port::{Mode, Port};
 use wire::bytes::u16_at;
 
@@ -21,29 +23,29 @@ struct Box {
 // ---- the lines
 
 // The number of the record and a word.
-fn line(n: u64, word: &[u8]) {
-    record::decimal(n);
-    record::text(b" ");
-    record::text(word);
+fn line<W: Write>(to: &mut W, n: u64, word: &[u8]) -> io::Result<()> {
+    record::decimal(to, n)?;
+    record::text(to, b" ")?;
+    record::text(to, word)
 }
 
 // The end of a line.
-fn end_line() {
-    record::text(b"\n");
+fn end_line<W: Write>(to: &mut W) -> io::Result<()> {
+    record::text(to, b"\n")
 }
 
 // A line with a number behind its word.
-fn numbered(n: u64, word: &[u8], number: u64) {
-    line(n, word);
-    record::text(b" ");
-    record::decimal(number);
+fn numbered<W: Write>(to: &mut W, n: u64, word: &[u8], number: u64) -> io::Result<()> {
+    line(to, n, word)?;
+    record::text(to, b" ")?;
+    record::decimal(to, number)
 }
 
 // A line for a packet that was sent.
-fn sent_line(n: u64, packet: &[u8]) {
-    line(n, b"in ");
-    record::hex(packet);
-    end_line();
+fn sent_line<W: Write>(to: &mut W, n: u64, packet: &[u8]) -> io::Result<()> {
+    line(to, n, b"in ")?;
+    record::hex(to, packet)?;
+    end_line(to)
 }
 
 // Bytes up to a place, as far as they go.
@@ -70,13 +72,14 @@ fn least(left: usize) -> usize
 }
 
 // A line for each packet of data: 512 bytes, and a rest.
-fn data_lines(n: u64, bytes: &[u8]) {
+fn data_lines<W: Write>(to: &mut W, n: u64, bytes: &[u8]) -> io::Result<()> {
     let mut at: usize = 0;
     while at < bytes.len() {
         let end = at + least(bytes.len() - at);
-        sent_line(n, &bytes[at..end]);
+        sent_line(to, n, &bytes[at..end])?;
         at = end;
     }
+    Ok(())
 }
 
 // ---- the records
@@ -99,32 +102,34 @@ fn shape_ok(kind: u16, body: &[u8]) -> bool {
 }
 
 // A read's line: the count, and the bytes if any.
-fn told_read(n: u64, got: Got, room: &[u8]) {
+fn told_read<W: Write>(to: &mut W, n: u64, got: Got, room: &[u8]) -> io::Result<()> {
     match got {
         Got::Refused => {
-            numbered(n, b"read", 9);
+            numbered(to, n, b"read", 9)?;
         }
         Got::Count(count) => {
-            numbered(n, b"read", count as u64);
+            numbered(to, n, b"read", count as u64)?;
             if 0 < count {
-                record::text(b" ");
-                record::hex(upto(room, count));
+                record::text(to, b" ")?;
+                record::hex(to, upto(room, count))?;
             }
         }
     }
-    end_line();
+    end_line(to)
 }
 
 // What a packet sent: its data in packets, then the CSW.
-fn told_sent(n: u64, sent: &[u8], moved: usize, csw: bool) {
-    data_lines(n, upto(sent, moved));
+fn told_sent<W: Write>(to: &mut W, n: u64, sent: &[u8], moved: usize, csw: bool) -> io::Result<()> {
+    data_lines(to, n, upto(sent, moved))?;
     if csw {
-        sent_line(n, upto(from(sent, moved), 13));
+        sent_line(to, n, upto(from(sent, moved), 13))?;
     }
+    Ok(())
 }
 
 // Kind 1: a write, in one call.
-fn write(
+fn write<W: Write>(
+    to: &mut W,
     n: u64,
     b: Box,
     request: &mut [u8],
@@ -133,7 +138,7 @@ fn write(
     scratch: &mut [u8],
     reply: &mut [u8],
     body: &[u8],
-) -> Box {
+) -> io::Result<Box> {
     let d = engine::api::write(
         b.e,
         request,
@@ -150,15 +155,16 @@ fn write(
         reply,
         body,
     );
-    numbered(n, b"write", d.status as u64);
-    end_line();
+    numbered(to, n, b"write", d.status as u64)?;
+    end_line(to)?;
     let e = d.e;
     let port = b.port;
-    Box { on: true, e, port }
+    Ok(Box { on: true, e, port })
 }
 
 // Kind 2: a read into a room of as many bytes as the body says.
-fn read(
+fn read<W: Write>(
+    to: &mut W,
     n: u64,
     b: Box,
     request: &[u8],
@@ -167,7 +173,7 @@ fn read(
     scratch: &[u8],
     reply: &[u8],
     room: &mut [u8],
-) -> Box {
+) -> io::Result<Box> {
     let t = engine::api::read(
         b.e,
         request,
@@ -183,19 +189,19 @@ fn read(
         room,
     );
     let got = t.got;
-    told_read(n, got, room);
+    told_read(to, n, got, room)?;
     let e = t.e;
     let port = b.port;
-    Box { on: true, e, port }
+    Ok(Box { on: true, e, port })
 }
 
 // Kind 3: a reset of the engine alone.
-fn reset(n: u64, b: Box) -> Box {
-    line(n, b"reset");
-    end_line();
+fn reset<W: Write>(to: &mut W, n: u64, b: Box) -> io::Result<Box> {
+    line(to, n, b"reset")?;
+    end_line(to)?;
     let e = engine::api::cleared(b.e);
     let port = b.port;
-    Box { on: true, e, port }
+    Ok(Box { on: true, e, port })
 }
 
 // Is the session closed.
@@ -209,7 +215,8 @@ fn is_closed(port: Port) -> bool {
 }
 
 // Kind 4: a packet.
-fn packet(
+fn packet<W: Write>(
+    to: &mut W,
     n: u64,
     b: Box,
     request: &mut [u8],
@@ -219,14 +226,14 @@ fn packet(
     reply: &mut [u8],
     sent: &mut [u8],
     body: &[u8],
-) -> Box {
+) -> io::Result<Box> {
     if is_closed(b.port) {
-        line(n, b"closed");
-        end_line();
-        return b;
+        line(to, n, b"closed")?;
+        end_line(to)?;
+        return Ok(b);
     }
-    numbered(n, b"packet", body.len() as u64);
-    end_line();
+    numbered(to, n, b"packet", body.len() as u64)?;
+    end_line(to)?;
     let s = transport::step::step(
         b.port,
         b.e,
@@ -245,19 +252,19 @@ fn packet(
         sent,
         body,
     );
-    told_sent(n, sent, s.moved, s.csw);
+    told_sent(to, n, sent, s.moved, s.csw)?;
     let e = s.e;
     let port = s.port;
-    Box { on: true, e, port }
+    Ok(Box { on: true, e, port })
 }
 
 // A record that is none of these ends the run.
-fn bad(n: u64, b: Box) -> Box {
-    line(n, b"bad");
-    end_line();
+fn bad<W: Write>(to: &mut W, n: u64, b: Box) -> io::Result<Box> {
+    line(to, n, b"bad")?;
+    end_line(to)?;
     let e = b.e;
     let port = b.port;
-    Box { on: false, e, port }
+    Ok(Box { on: false, e, port })
 }
 
 // As much of a room as a read asks for.
@@ -269,7 +276,8 @@ fn first(room: &mut [u8], n: usize) -> &mut [u8] {
 }
 
 // One record.
-fn one(
+fn one<W: Write>(
+    to: &mut W,
     n: u64,
     kind: u16,
     b: Box,
@@ -280,13 +288,14 @@ fn one(
     reply: &mut [u8],
     sent: &mut [u8],
     body: &[u8],
-) -> Box {
+) -> io::Result<Box> {
     if !shape_ok(kind, body) {
-        return bad(n, b);
+        return bad(to, n, b);
     }
     match kind {
-        1 => write(n, b, request, chip, buffer, scratch, reply, body),
+        1 => write(to, n, b, request, chip, buffer, scratch, reply, body),
         2 => read(
+            to,
             n,
             b,
             request,
@@ -296,13 +305,15 @@ fn one(
             reply,
             first(sent, u16_at(body, 0) as usize),
         ),
-        3 => reset(n, b),
-        _ => packet(n, b, request, chip, buffer, scratch, reply, sent, body),
+        3 => reset(to, n, b),
+        _ => packet(to, n, b, request, chip, buffer, scratch, reply, sent, body),
     }
 }
 
 // The records, one after the other, up to the end or to a bad one.
-fn run(
+fn run<R: Read, W: Write>(
+    input: &mut R,
+    to: &mut W,
     start: Box,
     body: &mut [u8],
     request: &mut [u8],
@@ -311,20 +322,20 @@ fn run(
     scratch: &mut [u8],
     reply: &mut [u8],
     sent: &mut [u8],
-) {
+) -> io::Result<()> {
     let mut b = start;
-    let mut n: u64 = 0;
-    while n < 18446744073709551615 {
-        match record::read_record(body) {
+    for n in 0..u64::MAX {
+        match record::read_record(input, body)? {
             Next::End => {
-                return;
+                return Ok(());
             }
             Next::Bad => {
-                bad(n, b);
-                return;
+                bad(to, n, b)?;
+                return Ok(());
             }
             Next::Record { kind, length } => {
                 b = one(
+                    to,
                     n,
                     kind,
                     b,
@@ -335,18 +346,20 @@ fn run(
                     reply,
                     sent,
                     &body[0..length],
-                );
+                )?;
                 if !b.on {
-                    return;
+                    return Ok(());
                 }
             }
         }
-        n += 1;
     }
+    Ok(())
 }
 
 // The box: a NOR of 32,768 bytes 0xFF, a partition `app`, scratch of 4,096 zero bytes at 0x40000000.
-fn main() {
+fn main(rt: HostRuntime) -> io::Result<()> {
+    let mut input = BufReader::new(rt.alloc(), rt.stdin())?;
+    let mut to = BufWriter::new(rt.alloc(), rt.stdout())?;
     let mut body = [0u8; 4096];
     let mut request = [0u8; 8208];
     let mut reply = [0u8; 4112];
@@ -370,6 +383,8 @@ fn main() {
     );
     let e = o.e;
     run(
+        &mut input,
+        &mut to,
         Box {
             on: true,
             e,
@@ -382,5 +397,6 @@ fn main() {
         &mut scratch,
         &mut reply,
         &mut sent,
-    );
+    )?;
+    to.flush()
 }

@@ -1,0 +1,13 @@
+-- Each room keeps its length.
+use Rattle.std.proofs.Common.{◌≡◌, length}
+use Rattle.replay.proofs.run.Given as goal
+
+abbrev pub invariant-loop-n : goal.invariant-loop-n
+invariant-loop-n g l =
+    (length l.body ≡ length l.initial.body)
+    × (length l.request ≡ length l.initial.request)
+    × (length l.chip ≡ length l.initial.chip)
+    × (length l.buffer ≡ length l.initial.buffer)
+    × (length l.scratch ≡ length l.initial.scratch)
+    × (length l.reply ≡ length l.initial.reply)
+    × (length l.sent ≡ length l.initial.sent)
