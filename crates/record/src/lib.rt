@@ -2,10 +2,11 @@
 // record is a u32 body length, a u16 kind and the body, little-endian.
 #![tactic(auto)]
 
-ghost use Rattle.std.specs.Prelude.{◌≡◌, ◌+◌, ◌*◌, ◌≤◌, ◌<◌, min, length, IfOk, OnOk, decimal};
+ghost use Rattle.std.specs.Prelude.{◌≡◌, ◌+◌, ◌*◌, ◌≤◌, ◌<◌, min, length, IfOk, OnOk, OnErr, decimal};
 ghost use Rattle.std.specs.Io.KnownBytes.{Appends};
-ghost use Rattle.record.specs.Record.{Within};
+ghost use Rattle.record.specs.Record.{Within, AppendsFront, Grows};
 
+use itoa::Buffer;
 use std::io;
 use std::io::{ErrorKind, Read, Write};
 use wire::bytes::{u16_at, u32_at};
@@ -98,36 +99,67 @@ pub fn digit(n: u8) -> u8 {
     if d < 10 { 48 + d } else { 87 + d }
 }
 
-// Prints bytes as hexadecimal digits. The error is a write's, here and below; some of what was to be
-// printed may then be written.
-pub fn hex<W: Write>(to: &mut W, s: &[u8]) -> io::Result<()> {
+// Writes bytes until all are taken. A write that a signal interrupts is tried again; one that takes
+// nothing is an error. What an error leaves is a front of the bytes behind what stood there.
+fn put<W: Write>(to: &mut W, s: &[u8]) -> io::Result<()>
+    ensures ok { OnOk result (Appends (W.contents to.old) (W.contents to.new) s.now) }
+    ensures err { OnErr result (AppendsFront (W.contents to.old) (W.contents to.new) s.now) }
+{
+    let mut done = 0;
+    for _ in 0..u64::MAX {
+        if s.len() <= done {
+            return Ok(());
+        }
+        match to.write(&s[done..]) {
+            Ok(0) => return Err(io::Error::from(ErrorKind::WriteZero)),
+            Ok(n) => done += n,
+            Err(e) => {
+                if e.kind() != ErrorKind::Interrupted {
+                    return Err(e);
+                }
+            }
+        }
+    }
+    Err(io::Error::from(ErrorKind::Interrupted))
+}
+
+// Prints bytes as hexadecimal digits. The error is a write's, here and below; some of the digits may
+// then be written, and what stood there stays.
+pub fn hex<W: Write>(to: &mut W, s: &[u8]) -> io::Result<()>
+    ensures { Grows (W.contents to.old) (W.contents to.new) }
+{
     let mut room = [0u8; 4096];
     let out: &mut [u8] = &mut room;
     let mut at = 0;
     while at < s.len() {
         let n = spell(s, at, out);
         let end = 2 * n;
-        to.write_all(&out[..end])?;
+        put(to, &out[..end])?;
         at += n;
     }
     Ok(())
 }
 
-// Prints bytes as they are.
+// Prints bytes as they are. An error leaves a front of them printed.
 pub fn text<W: Write>(to: &mut W, s: &[u8]) -> io::Result<()>
-    ensures { OnOk result (Appends (W.contents to.old) (W.contents to.new) s.now) }
+    ensures ok { OnOk result (Appends (W.contents to.old) (W.contents to.new) s.now) }
+    ensures err { OnErr result (AppendsFront (W.contents to.old) (W.contents to.new) s.now) }
 {
-    to.write_all(s)
+    put(to, s)
 }
 
-// Prints a number in decimal.
+// Prints a number in decimal. An error leaves a front of its digits printed.
 pub fn decimal<W: Write>(to: &mut W, n: u64) -> io::Result<()>
-    ensures { OnOk result (Appends (W.contents to.old) (W.contents to.new) (decimal n)) }
+    ensures ok { OnOk result (Appends (W.contents to.old) (W.contents to.new) (decimal n)) }
+    ensures err { OnErr result (AppendsFront (W.contents to.old) (W.contents to.new) (decimal n)) }
 {
-    write!(to, "{n}")
+    let mut buffer = Buffer::new();
+    put(to, buffer.format(n).as_bytes())
 }
 
 // Prints a number as eight hexadecimal digits.
-pub fn word<W: Write>(to: &mut W, n: u32) -> io::Result<()> {
-    write!(to, "{n:08x}")
+pub fn word<W: Write>(to: &mut W, n: u32) -> io::Result<()>
+    ensures { Grows (W.contents to.old) (W.contents to.new) }
+{
+    hex(to, &n.to_be_bytes())
 }

@@ -1,0 +1,2 @@
+-- What writes and prints put behind the bytes of a writer.
+mod Prints
