@@ -1,12 +1,12 @@
 /*
  * Lamjhotu for C: the proved upgrade engine as a static library, target/staticlib/liblamjhotu.a, which
- * `rt staticlib lamjhotu` proves and writes (x86-64 Linux). examples/c has a program that links it.
+ * ./library proves, builds and puts there (x86-64 Linux). examples/c has a program that links it.
  *
  * A SLICE is two arguments, a pointer and the number of elements behind it. The pointer is not null,
  * not even where the number is 0, and aligned for its type. What is passed through a pointer that is not
  * const overlaps nothing else of the same call. That is all that a caller owes: every call answers for
  * all numbers and all bytes, and touches no byte outside of the slices. The contracts in
- * crates/lamjhotu/src/calls.rt determine the answer and every byte that is left.
+ * crates/lamjhotu_c/src/lib.rt determine the answer and every byte that is left.
  *
  * THE RECORD of an engine lies in LAMJHOTU_RECORD_LEN bytes of the caller's. An opening writes it; every
  * later call takes it and writes it back. It holds no pointer, so it may be copied and moved. Bytes that

@@ -1,5 +1,5 @@
-//! Links the static library that `rt staticlib lamjhotu` writes: from LAMJHOTU_LIB, or from
-//! ../../target/staticlib.
+//! Links the static library liblamjhotu.a: from LAMJHOTU_LIB, or from ../../target/staticlib, where
+//! ./library at the top of the repository puts it.
 
 use std::env;
 use std::path::{Path, PathBuf};

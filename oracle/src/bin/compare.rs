@@ -84,7 +84,7 @@ fn main() {
     let variable = |name: &str, default: &str| std::env::var(name).unwrap_or(default.to_string());
     let kinds = variable("KINDS", KINDS);
     let lab = Lab {
-        program: variable("LAB", "target/bin/lab").into(),
+        program: variable("LAB", "crates/lab/out/lab").into(),
         folder: folder.into(),
     };
     if !lab.program.is_file() {
