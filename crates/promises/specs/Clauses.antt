@@ -337,16 +337,16 @@ pub bus_reset_one : Fixes bus_reset.Learnt (λ k r r' s s'. s.0.now ≡ s'.0.now
 bus_reset_one k a r r' s s' = meet
 
 -- `bus::host_upgrading`: the answer and the record
-pub host_upgrading_one : Fixes host_upgrading.Learnt (λ k r r' s s'.
+pub bus_host_upgrading_one : Fixes host_upgrading.Learnt (λ k r r' s s'.
     (r ≡ r')
     × (s.0.now ≡ s'.0.now))
-host_upgrading_one k a r r' s s' h h' = (meet h.0 h'.0, meet h.1 h'.1)
+bus_host_upgrading_one k a r r' s s' h h' = (meet h.0 h'.0, meet h.1 h'.1)
 
 -- `bus::reset_requested`: the answer and the record
-pub reset_requested_one : Fixes reset_requested.Learnt (λ k r r' s s'.
+pub bus_reset_requested_one : Fixes reset_requested.Learnt (λ k r r' s s'.
     (r ≡ r')
     × (s.0.now ≡ s'.0.now))
-reset_requested_one k a r r' s s' h h' = (meet h.0 h'.0, meet h.1 h'.1)
+bus_reset_requested_one k a r r' s s' h h' = (meet h.0 h'.0, meet h.1 h'.1)
 
 -- `command::is_query`
 pub is_query_one : Returns is_query.Learnt
