@@ -22,7 +22,7 @@ use crate::state::{Lab, Stepped, bad, closed, none, on};
 use crate::stores::on_storage;
 use record::Next;
 use std::io;
-use std::io::{BufWriter, Read, Write};
+use std::io::{Read, Write};
 use storage::types::Store;
 use wire::bytes::{put, u32_at};
 
@@ -277,7 +277,6 @@ fn run<R: Read, W: Write>(
                     sizes,
                     lens,
                 )?;
-                to.flush()?;
                 if !s.go {
                     return Ok(());
                 }
@@ -297,7 +296,7 @@ fn run<R: Read, W: Write>(
 
 fn main(rt: HostRuntime) -> io::Result<()> {
     let mut input = rt.stdin();
-    let mut to = BufWriter::new(rt.alloc(), rt.stdout())?;
+    let mut to = rt.stdout();
     let mut body_room = [0u8; 131072];
     let mut opening_room = [0u8; 131072];
     let mut request_room = [0u8; 16384];
@@ -324,6 +323,5 @@ fn main(rt: HostRuntime) -> io::Result<()> {
         &mut offsets_room,
         &mut sizes_room,
         &mut lens_room,
-    )?;
-    to.flush()
+    )
 }

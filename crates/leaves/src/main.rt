@@ -7,7 +7,7 @@ ghost use Rattle.std.specs.Prelude.{◌+◌, ◌≤◌, ◌<◌, length};
 
 use record::Next;
 use std::io;
-use std::io::{BufWriter, Read, Write};
+use std::io::{Read, Write};
 use text::number::Number;
 use text::token::Place;
 use wire::bytes::{le4, le8, put, u16_at, u32_at, u64_at};
@@ -313,7 +313,6 @@ fn run<R: Read, W: Write>(input: &mut R, to: &mut W, room: &mut [u8]) -> io::Res
         match record::read_record(input, room)? {
             Next::Record { kind, length } => {
                 one(to, n, kind, &mut room[0..length])?;
-                to.flush()?;
             }
             Next::Bad => {
                 return record::text(to, b"bad\n");
@@ -328,8 +327,7 @@ fn run<R: Read, W: Write>(input: &mut R, to: &mut W, room: &mut [u8]) -> io::Res
 
 fn main(rt: HostRuntime) -> io::Result<()> {
     let mut input = rt.stdin();
-    let mut to = BufWriter::new(rt.alloc(), rt.stdout())?;
+    let mut to = rt.stdout();
     let mut room = [0u8; 65536];
-    run(&mut input, &mut to, &mut room)?;
-    to.flush()
+    run(&mut input, &mut to, &mut room)
 }

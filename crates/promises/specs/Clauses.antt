@@ -148,7 +148,7 @@ csw_one k a r r' s s' = meet
 pub number_parse_one : Returns number_parse.Learnt
 number_parse_one k a r r' s s' = meet
 
--- `token::token`: a part of the line, by its bytes; so too where `now r` stands below
+-- `token::token`: a part of the line, by its bytes; so too where `r.now` stands below
 pub token_one : Fixes token.Learnt (λ k r r' s s'. r.now ≡ r'.now)
 token_one k a r r' s s' = meet
 

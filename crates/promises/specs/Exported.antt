@@ -1,4 +1,4 @@
--- Uniqueness of the exported contracts: any two outcomes that the contract of a function of the static library admits for the same
+-- Uniqueness of the exported contracts: any two outcomes that the contract of a function of the crate `lamjhotu` admits for the same
 -- arguments are equal, the answer and every lent byte. As in Clauses.antt, `Learnt` is the function's `ensures` as the checker made it.
 use Rattle.std.specs.Prelude.{◌≡◌, List, [], ℕ}
 use Rattle.std.proofs.Common.{ap}

@@ -1,8 +1,8 @@
--- What a reader of records promises: a body that it hands out lies within the room. And what an error leaves behind what was to be
--- printed: the known bytes of a writer stay, and a front of it stands behind them, or some other bytes.
+-- What a reader of records promises: a body that it hands out lies within the room. And what an error leaves: of what was to be printed a
+-- front, or some other bytes, behind the known bytes of the writer, which stay; and of an input all but a front of its known bytes.
 use Rattle.std.specs.Prelude.{ℕ, ◌≤◌, List, take}
 use Rattle.std.specs.declared.option.Option.{Option}
-use Rattle.std.specs.Io.KnownBytes.{Appends}
+use Rattle.std.specs.Io.KnownBytes.{Appends, Consumes}
 use Rattle.record.specs.declared.Next.{Next}
 use Rattle.record.specs.declared.Next.TheVariants.{Record, Bad, End}
 
@@ -18,3 +18,7 @@ AppendsFront old new bs = (k : ℕ) × Appends old new (take k bs)
 -- known bytes stay, and grow by some others
 abbrev pub Grows : Option (List ℕ) → Option (List ℕ) → Type 0
 Grows old new = (bs : List ℕ) × Appends old new bs
+
+-- known bytes lose a front
+abbrev pub Shrinks : Option (List ℕ) → Option (List ℕ) → Type 0
+Shrinks old new = (bs : List ℕ) × Consumes old new bs

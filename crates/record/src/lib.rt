@@ -4,7 +4,7 @@
 
 ghost use Rattle.std.specs.Prelude.{◌≡◌, ◌+◌, ◌*◌, ◌≤◌, ◌<◌, min, length, IfOk, OnOk, OnErr, decimal};
 ghost use Rattle.std.specs.Io.KnownBytes.{Appends};
-ghost use Rattle.record.specs.Record.{Within, AppendsFront, Grows};
+ghost use Rattle.record.specs.Record.{Within, AppendsFront, Grows, Shrinks};
 
 use itoa::Buffer;
 use std::io;
@@ -21,10 +21,12 @@ pub enum Next {
 }
 
 // Reads until the room is full or the input ends, and answers how many bytes it put at the start of
-// the room. A read that a signal interrupts is tried again.
+// the room. A read that a signal interrupts is tried again. Whatever comes, the room keeps its length,
+// and the input has lost a front of what it had.
 fn read_full<R: Read>(input: &mut R, room: &mut [u8]) -> io::Result<usize>
     ensures read { IfOk result (λ done. done ≤ length room.new) }
     ensures kept { length room.new ≡ length room.old }
+    ensures rest { Shrinks (R.remaining input.old) (R.remaining input.new) }
 {
     let mut done = 0;
     for _ in 0..u64::MAX {
@@ -45,10 +47,11 @@ fn read_full<R: Read>(input: &mut R, room: &mut [u8]) -> io::Result<usize>
 }
 
 // Reads the next record. A record that is cut off, or whose body the room cannot hold, is bad. The
-// error is a read's; the room may then hold some of the body.
+// error is a read's; the room may then hold some of the body, and the input has lost what was read.
 pub fn read_record<R: Read>(input: &mut R, room: &mut [u8]) -> io::Result<Next>
     ensures read { IfOk result (λ next. Within next (length room.new)) }
     ensures kept { length room.new ≡ length room.old }
+    ensures rest { Shrinks (R.remaining input.old) (R.remaining input.new) }
 {
     let mut head = [0u8; 6];
     let got = read_full(input, &mut head)?;

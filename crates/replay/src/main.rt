@@ -8,7 +8,7 @@ use engine::api::Got;
 use engine::types::Engine;
 use record::Next;
 use std::io;
-use std::io::{BufWriter, Read, Write};
+use std::io::{Read, Write};
 use transport::port::{Mode, Port};
 use wire::bytes::u16_at;
 
@@ -347,7 +347,6 @@ fn run<R: Read, W: Write>(
                     sent,
                     &body[0..length],
                 )?;
-                to.flush()?;
                 if !b.on {
                     return Ok(());
                 }
@@ -360,7 +359,7 @@ fn run<R: Read, W: Write>(
 // The box: a NOR of 32,768 bytes 0xFF, a partition `app`, scratch of 4,096 zero bytes at 0x40000000.
 fn main(rt: HostRuntime) -> io::Result<()> {
     let mut input = rt.stdin();
-    let mut to = BufWriter::new(rt.alloc(), rt.stdout())?;
+    let mut to = rt.stdout();
     let mut body = [0u8; 4096];
     let mut request = [0u8; 8208];
     let mut reply = [0u8; 4112];
@@ -398,6 +397,5 @@ fn main(rt: HostRuntime) -> io::Result<()> {
         &mut scratch,
         &mut reply,
         &mut sent,
-    )?;
-    to.flush()
+    )
 }

@@ -2,14 +2,14 @@
 --     UTF8-octets = *( UTF8-char )
 --     UTF8-char   = UTF8-1 / UTF8-2 / UTF8-3 / UTF8-4
 --     UTF8-1      = %x00-7F
---     UTF8-2      = %x_c2-DF UTF8-tail
---     UTF8-3      = %x_e0 %x_a0-BF UTF8-tail / %x_e1-EC 2( UTF8-tail ) / %x_ed %x80-9F UTF8-tail / %x_ee-EF 2( UTF8-tail )
---     UTF8-4      = %x_f0 %x90-BF 2( UTF8-tail ) / %x_f1-F3 3( UTF8-tail ) / %x_f4 %x80-8F 2( UTF8-tail )
+--     UTF8-2      = %xC2-DF UTF8-tail
+--     UTF8-3      = %xE0 %xA0-BF UTF8-tail / %xE1-EC 2( UTF8-tail ) / %xED %x80-9F UTF8-tail / %xEE-EF 2( UTF8-tail )
+--     UTF8-4      = %xF0 %x90-BF 2( UTF8-tail ) / %xF1-F3 3( UTF8-tail ) / %xF4 %x80-8F 2( UTF8-tail )
 --     UTF8-tail   = %x80-BF
 -- Assumes nothing.
 use Rattle.std.specs.Prelude.{◌≡◌, ℕ, zero, suc, Bool, true, false, cond, ◌&&◌, ◌||◌, List, [], ◌∷◌, ◌++◌, nat_le}
 
--- a range of numbers: %x_c2-DF is 0xC2 – 0xDF, and %x_e0 is only 0xE0
+-- a range of numbers: %xC2-DF is 0xC2 – 0xDF, and %xE0 is only 0xE0
 pub data Range : Type 0 where
   ◌–◌ : ℕ → ℕ → Range
 

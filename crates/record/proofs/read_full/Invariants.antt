@@ -1,6 +1,7 @@
--- What has been read lies within the room.
+-- What has been read lies within the room, and the input has lost a front.
 use Rattle.std.proofs.Common.{◌≤◌, length}
+use Rattle.record.specs.Record.{Shrinks}
 use Rattle.record.proofs.read_full.Given as goal
 
 abbrev pub invariant-loop : goal.invariant-loop
-invariant-loop g l = l.done ≤ length l.room
+invariant-loop g l = (l.done ≤ length l.room) × Shrinks (g.R.Read.remaining l.initial.input) (g.R.Read.remaining l.input)
