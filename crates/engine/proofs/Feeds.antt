@@ -1,10 +1,15 @@
--- Turn after turn: a write's first piece and then the rest, and the loop that makes them.
-use Rattle.std.proofs.Common.{◌≡◌, ℕ, zero, suc, ◌+◌, ◌-◌, ◌<◌, ◌≤◌, min, Bool, true, false, cond, eqb, List, [], ◌∷◌, length, take, drop, sym, refl, ap, ◌∙◌, arith, length-drop, drop_of_length-le, length-take, drop-drop, eq-eqb, ne_eqb}
-use Rattle.storage.proofs.Scratches.{take_least, drop_least}
-use Rattle.engine.specs.World.{Given, World, Out, out_of}
+-- Turn after turn: a write's first piece and then the rest.
+use Rattle.std.proofs.Common.{◌≡◌, ℕ, zero, suc, ◌-◌, ◌<◌, ◌≤◌, min, Bool, true, false, cond, eqb, List, [], ◌∷◌, length, take, drop, sym, refl, ap, ◌∙◌, arith, length-drop, length-take, eqb-true, eq-eqb, ne_eqb}
+use borrow.Author.Tests.{eqb-false}
+use Rattle.std.proofs.lemmas.List.{take_min, drop_min, nil_from_length}
+use Rattle.storage.specs.World.{call_number}
+use Rattle.storage.specs.declared.types.CallError.{CallError}
+use Rattle.storage.specs.declared.types.CallError.TheVariants.{Failed, Refused}
+use Rattle.engine.specs.declared.rooms.Rooms.{Rooms}
+use Rattle.engine.specs.World.{Given, World, Out, out_of, KeepsRooms}
 use Rattle.engine.specs.Frame.{gathers}
 use Rattle.engine.specs.Stream.{streams}
-use Rattle.engine.specs.Feed.{Fit, Step, step_by, steps, want_of, turns, cut_of, then_by, goes, feeds}
+use Rattle.engine.specs.Feed.{Fit, want_of, turns, cut_of, then_by, goes, feeds}
 use Rattle.engine.proofs.Fits.{want_some, turn_fit}
 
 module _ (g : Given) where
@@ -64,58 +69,23 @@ module _ (g : Given) where
   unfolding then_by
   then_stop o k h = ap (λ (t : Bool). cond t (k o.w) o) (ne_eqb o.status 0 h)
 
-  -- ---- the loop
+  -- ---- one turn of the loop
 
-  -- what is left gives the same answer
-  pub record Going (d : List ℕ) (first w : World) (off : ℕ) : Type 0 where
-    pub fit : Fit w
-    pub within : off ≤ length d
-    pub left : feeds g first d ≡ feeds g w (drop off d)
-
-  pub going_start : (d : List ℕ) (w : World) → Fit w → Going d w w 0
-  going_start d w k = record { fit = k; within = omega arith; left = refl }
-
-  pub record Turned (d : List ℕ) (first : World) (off : ℕ) (s : Step) : Type 0 where
-    pub some : off < s.off
-    pub within : s.off ≤ length d
-    pub fit : Fit s.out.w
-    pub is : feeds g first d ≡ then_by s.out (λ v. feeds g v (drop s.off d))
-
-  turned : (d : List ℕ) (first w : World) (off : ℕ) → Going d first w off → off < length d → Turned d first off (step_by g d off (min (want_of w.e) (length d - off)) w)
-  turned d first w off i h =
-      let l = length-drop off d in
+  -- it takes what is wanted, or all that is left, and leaves a world that fits
+  pub feed_turn : (w : World) (d : List ℕ) → 0 < length d → {k : ℕ} → k ≡ min (want_of w.e) (length d) → Fit w
+      → feeds g w d ≡ then_by (turns g (take k d) w) (λ v. feeds g v (drop k d))
+  feed_turn w d h {k} e f =
       let n = want_of w.e in
-      let m = min n (length d - off) in
-      let some = want_some w i.fit in
+      let some = want_some w f in
       let c : suc (n - 1) ≡ n = omega arith in
-      let q : min n (length (drop off d)) ≡ m = ap (λ (k : ℕ). min n k) l in
-      let t : take (cut_of w) (drop off d) ≡ take m (drop off d) =
-      ap (λ (k : ℕ). take k (drop off d)) c ∙ sym (take_least n (drop off d)) ∙ ap (λ (k : ℕ). take k (drop off d)) q in
-      let r : drop (cut_of w) (drop off d) ≡ drop (off + m) d =
-      ap (λ (k : ℕ). drop k (drop off d)) c ∙ sym (drop_least n (drop off d)) ∙ ap (λ (k : ℕ). drop k (drop off d)) q ∙ drop-drop m off d in
-      let z = length-take m (drop off d) in
-      record {
-        some = omega arith;
-        within = omega arith;
-        fit = turn_fit g (take m (drop off d)) w (omega arith) i.fit;
-        is = i.left ∙ feed_step w (drop off d) (omega arith) ∙ rw (r, t);
-      }
+      let t : take (cut_of w) d ≡ take k d = ap (λ (m : ℕ). take m d) c ∙ sym (take_min n d) ∙ ap (λ (m : ℕ). take m d) (sym e) in
+      let r : drop (cut_of w) d ≡ drop k d = ap (λ (m : ℕ). drop m d) c ∙ sym (drop_min n d) ∙ ap (λ (m : ℕ). drop m d) (sym e) in
+      feed_step w d h ∙ rw (r, t)
 
-  -- one turn of it
-  pub going_turn : (d : List ℕ) (first w : World) (off : ℕ) (s : Step) → Going d first w off → off < length d → s ≡ steps g d off w → Turned d first off s
-  unfolding steps
-  going_turn d first w off s i h e = rw e (turned d first w off i h)
+  pub feed_fit : (w : World) (d : List ℕ) {k : ℕ} → k ≡ min (want_of w.e) (length d) → Fit w → Fit (turns g (take k d) w).w
+  feed_fit w d {k} e f = let z = length-take k d in turn_fit g (take k d) w (omega arith) f
 
-  pub going_more : (d : List ℕ) (first : World) (off : ℕ) (s : Step) → Turned d first off s → s.out.status ≡ 0 → Going d first s.out.w s.off
-  going_more d first off s t z = record { fit = t.fit; within = t.within; left = t.is ∙ then_go s.out _ z }
-
-  pub going_stop : (d : List ℕ) (first : World) (off : ℕ) (s : Step) → Turned d first off s → (s.out.status ≡ 0 → ⊥) → s.out ≡ feeds g first d
-  going_stop d first off s t z = sym (t.is ∙ then_stop s.out _ z)
-
-  pub going_end : (d : List ℕ) (first w : World) (off : ℕ) → Going d first w off → length d ≤ off → out_of 0 w ≡ feeds g first d
-  going_end d first w off i h = sym (i.left ∙ ap (feeds g w) (drop_of_length-le d h) ∙ feed_nil w)
-
--- ---- a turn, and its place, as the code goes
+-- ---- a turn, as the code goes
 
 module _ (g : Given) (p : List ℕ) (w : World) where
   turn_is : (b : Bool) → eqb w.e.up.left 0 ≡ b → turns g p w ≡ cond b (gathers g p w) (streams g.lent p w)
@@ -128,17 +98,54 @@ module _ (g : Given) (p : List ℕ) (w : World) where
   pub turn_stream : (w.e.up.left ≡ 0 → ⊥) → streams g.lent p w ≡ turns g p w
   turn_stream h = sym (turn_is false (ne_eqb w.e.up.left 0 h))
 
--- the piece is no longer than what is wanted
-pub few : (d : List ℕ) (off m : ℕ) {k n z : ℕ} → k ≡ min n m → n ≡ z → length (take (off + k - off) (drop off d)) ≤ z
-few d off m {k} h e = let l = length-take (off + k - off) (drop off d) in omega arith
+-- ---- the loop
 
-abbrev step_at : Out → ℕ → Step
-step_at o n = record { out = o; off = n }
+-- what is left gives the same answer, in the same rooms
+pub record Going (g : Given) (w : World) (d : List ℕ) (v : World) (rest : List ℕ) (old new : Rooms) : Type 0 where
+  pub fit : Fit v
+  pub rooms : KeepsRooms old new
+  pub same : feeds g v rest ≡ feeds g w d
 
-pub step_told : (g : Given) (d : List ℕ) (off : ℕ) (w : World) {k n : ℕ} → k ≡ min n (length d - off) → n ≡ want_of w.e → {o : Out}
-    → o ≡ turns g (take (off + k - off) (drop off d)) w → step_at o (off + k) ≡ steps g d off w
-unfolding steps
-step_told g d off w {k} {n} a b r =
-    let i : off + k - off ≡ k = omega arith in
-    let c : k ≡ min (want_of w.e) (length d - off) = a ∙ ap (λ (n : ℕ). min n (length d - off)) b in
-    ap (λ (o : Out). step_at o (off + k)) r ∙ ap (λ (j : ℕ). step_at (turns g (take j (drop off d)) w) (off + k)) i ∙ ap (λ (j : ℕ). step_by g d off j w) c
+-- over two steps
+rooms_on : (a b c : Rooms) → KeepsRooms a b → KeepsRooms b c → KeepsRooms a c
+rooms_on a b c h k =
+    record { reply = k.reply ∙ h.reply; chip = k.chip ∙ h.chip; buffer = k.buffer ∙ h.buffer; scratch = k.scratch ∙ h.scratch }
+
+module _ (g : Given) (w : World) (d : List ℕ) (v : World) (rest : List ℕ) (old new : Rooms) (h : Going g w d v rest old new) where
+  pub going_end : length rest ≡ 0 → out_of 0 v ≡ feeds g w d
+  going_end e = sym (feed_nil g v) ∙ ap (feeds g v) (sym (nil_from_length rest e)) ∙ h.same
+
+  -- a turn
+  module _ (some : 0 < length rest) {n k : ℕ} {p r : List ℕ} (a : n ≡ want_of v.e) (b : k ≡ min n (length rest)) (p_is : p ≡ take k rest) (r_is : r ≡ drop k rest)
+      {s : ℕ} {u : World} (t : out_of s u ≡ turns g p v) where
+    cut : k ≡ min (want_of v.e) (length rest)
+    cut = b ∙ ap (λ (m : ℕ). min m (length rest)) a
+
+    turned : out_of s u ≡ turns g (take k rest) v
+    turned = t ∙ ap (λ (x : List ℕ). turns g x v) p_is
+
+    step : feeds g v rest ≡ then_by (out_of s u) (λ z. feeds g z r)
+    step = feed_turn g v rest some cut h.fit ∙ rw (← turned, ← r_is)
+
+    pub going_stop : (s ≡ 0 → ⊥) → out_of s u ≡ feeds g w d
+    going_stop e = sym (then_stop g (out_of s u) (λ z. feeds g z r) e) ∙ sym step ∙ h.same
+
+    pub going_on : s ≡ 0 → {next : Rooms} → KeepsRooms new next → Going g w d u r old next
+    going_on e {next} q =
+        record {
+          fit = rw (← turned) at (feed_fit g v rest cut h.fit);
+          rooms = rooms_on old new next h.rooms q;
+          same = sym (then_go g (out_of s u) (λ z. feeds g z r) e) ∙ sym step ∙ h.same;
+        }
+
+-- a call that failed has a status
+pub failed_some : (e : CallError) → call_number e ≡ 0 → ⊥
+failed_some Failed h = absurd (omega arith)
+failed_some Refused h = absurd (omega arith)
+
+-- what the loop's test says
+pub some_left : (d : List ℕ) {b : Bool} → b ≡ eqb (length d) 0 → b ≡ false → 0 < length d
+some_left d p q = let i = eqb-false (length d) 0 (sym p ∙ q) in omega arith
+
+pub none_left : (d : List ℕ) {b : Bool} → b ≡ eqb (length d) 0 → b ≡ true → length d ≡ 0
+none_left d p q = eqb-true (length d) 0 (sym p ∙ q)

@@ -1,5 +1,6 @@
 -- Bounds hold from turn to turn: what a turn leaves fits again (01, 'In bounds').
-use Rattle.std.proofs.Common.{◌≡◌, ℕ, ◌+◌, ◌-◌, ◌^◌, ◌<◌, ◌≤◌, Bool, true, false, cond, eqb, ltb, List, length, take, drop, replicate, refl, ap, ◌∙◌, arith, length-append, ltb-true, eqb-true}
+use Rattle.std.proofs.Common.{◌≡◌, ℕ, ◌+◌, ◌-◌, ◌^◌, ◌<◌, ◌≤◌, cond, eqb, ltb, Option, None, Some, List, length, take, drop, replicate, refl, ap, ◌∙◌, arith, length-append, ltb-true, eqb-true}
+use Rattle.std.proofs.lemmas.Bool.{cond_both}
 use borrow.Author.Tests.{eqb-false}
 use lib.ListN.{length-replicate}
 use lib.Seq.{length-sets}
@@ -7,8 +8,6 @@ use Rattle.wire.specs.Header.{header_of}
 use Rattle.storage.specs.World.{Lent}
 use Rattle.storage.specs.Store.{flushing, writing}
 use Rattle.engine.specs.declared.types.Engine.{Engine}
-use Rattle.engine.specs.declared.exec.Order.{Order}
-use Rattle.engine.specs.declared.exec.Order.TheVariants.{Bad, Run}
 use Rattle.engine.specs.declared.frame.Next.{Next}
 use Rattle.engine.specs.declared.frame.Next.TheVariants.{Refused, Send, Total}
 use Rattle.engine.specs.World.{Given, World, emptied, with_up, at_e, dev_of, Out, out_of}
@@ -16,15 +15,10 @@ use Rattle.engine.specs.Reply.{Answer, ok, fail, unsupported, odd, whether, repl
 use Rattle.engine.specs.Exec.{runs, order_of, begun, performs, exec_by, execs}
 use Rattle.engine.specs.Stream.{UpFit, fed_by, fed, taken, settled_by, settled, finishes, streamed_by, streams, started, begins}
 use Rattle.engine.specs.Frame.{next_of, framed, ripens, headed_by, heads, grown, fills, gathers}
-use Rattle.engine.specs.Feed.{FrameFit, Mid, Fit, want_by, want_of, turns}
+use Rattle.engine.specs.Feed.{FrameFit, Mid, Fit, want_of, turns}
 use Rattle.engine.proofs.Replies.{Brief, header_length}
-use Rattle.engine.proofs.Tidies.{runs_tidy}
+use Rattle.engine.proofs.Tidies.{whether_brief, runs_tidy}
 use Rattle.engine.proofs.Frames.{Taken, next_taken}
-
--- what holds of both holds of the one that a test picks
-picked : {A : Type 0} (P : A → Type 0) (b : Bool) (x y : A) → (b ≡ true → P x) → (b ≡ false → P y) → P (cond b x y)
-picked P true x y h k = h refl
-picked P false x y h k = k refl
 
 empty_fit : FrameFit (record { len = 0; total = 0 })
 empty_fit = (λ z. omega arith, λ n. absurd (n refl), omega arith)
@@ -47,10 +41,6 @@ replied_mid : (c : ℕ) (a : Answer) (w : World) → length w.request ≡ 8208 �
 unfolding replied
 replied_mid c a w q p u h = record { request = q; reply = length-sets w.reply 0 (reply_by c a) ∙ p; said = (omega arith, reply_most c a h); up = u }
 
-whether_brief : (b : Bool) → Brief (whether b)
-whether_brief true = omega arith
-whether_brief false = tt
-
 replied_fit : (c : ℕ) (a : Answer) (w : World) → Mid w → FrameFit w.e.frame → Brief a → Fit (replied c a w)
 unfolding replied
 replied_fit c a w m f h = record { mid = replied_mid c a w m.request m.reply m.up h; frame = f }
@@ -61,7 +51,7 @@ module _ (l : Lent) where
   settled_fit : (w : World) → Fit w → Fit (settled l w)
   unfolding settled
   settled_fit w k =
-      picked Fit (eqb w.e.up.burn 0) (settled_by w (flushing l (dev_of w))) w
+      cond_both (eqb w.e.up.burn 0) (settled_by w (flushing l (dev_of w))) w Fit
       (λ _. record { mid = record { request = k.mid.request; reply = k.mid.reply; said = k.mid.said; up = k.mid.up }; frame = k.frame })
       (λ _. k)
 
@@ -72,13 +62,13 @@ module _ (l : Lent) where
       replied_fit 0x12 (whether (eqb (settled l w).e.up.burn 0)) (settled l w) s.mid s.frame (whether_brief (eqb (settled l w).e.up.burn 0))
 
   streamed_fit : (w : World) → Fit w → Fit (streamed_by l w).w
-  streamed_fit w k = picked (λ (o : Out). Fit o.w) (eqb w.e.up.left 0) (finishes l w) (out_of 0 w) (λ _. finish_fit w k) (λ _. k)
+  streamed_fit w k = cond_both (eqb w.e.up.left 0) (finishes l w) (out_of 0 w) (λ (o : Out). Fit o.w) (λ _. finish_fit w k) (λ _. k)
 
   fed_fit : (p : List ℕ) (w : World) → length p ≤ w.e.up.left → Fit w → Fit (fed l p w)
   unfolding fed
   fed_fit p w n k =
       let u : UpFit (taken p (length p) w.e.up) = (omega (arith, k.mid.up.0), k.mid.up.1) in
-      picked Fit w.e.up.aimed (fed_by w p (writing l (w.e.up.target + w.e.up.written) p (dev_of w))) (at_e (with_up (taken p (length p) w.e.up) w.e) w)
+      cond_both w.e.up.aimed (fed_by w p (writing l (w.e.up.target + w.e.up.written) p (dev_of w))) (at_e (with_up (taken p (length p) w.e.up) w.e) w) Fit
       (λ _. record { mid = record { request = k.mid.request; reply = k.mid.reply; said = k.mid.said; up = u }; frame = k.frame })
       (λ _. record { mid = record { request = k.mid.request; reply = k.mid.reply; said = k.mid.said; up = u }; frame = k.frame })
 
@@ -91,7 +81,7 @@ module _ (l : Lent) where
   begin_fit n w h k =
       let u : UpFit (started n w.e.up) = (omega arith, k.mid.up.1) in
       let v = at_e (with_up (started n w.e.up) w.e) w in
-      picked (λ (o : Out). Fit o.w) w.e.up.valid (streamed_by l v) (ends 0x12 fail w)
+      cond_both w.e.up.valid (streamed_by l v) (ends 0x12 fail w) (λ (o : Out). Fit o.w)
       (λ _. streamed_fit v (record { mid = record { request = k.mid.request; reply = k.mid.reply; said = k.mid.said; up = u }; frame = k.frame }))
       (λ _. replied_fit 0x12 fail w k.mid k.frame tt)
 
@@ -117,15 +107,15 @@ module _ (g : Given) where
   unfolding execs
   exec_fit w m = go (order_of (take w.e.frame.total w.request))
     where
-      go : (o : Order) → Fit (exec_by g w o).w
-      go Bad = empty_world w m
-      go (Run c n) = perform_fit c n w m
+      go : (o : Option (ℕ × ℕ)) → Fit (exec_by g w o).w
+      go None = empty_world w m
+      go (Some (c, n)) = perform_fit c n w m
 
   -- a frame that is not whole, or is executed
   ripe_fit : (w : World) → Mid w → w.e.frame.total ≤ 8208 → (w.e.frame.total ≡ 0 → ⊥) → Fit (ripens g w).w
   unfolding ripens
   ripe_fit w m h n =
-      picked (λ (o : Out). Fit o.w) (ltb w.e.frame.len w.e.frame.total) (out_of 0 w) (execs g w)
+      cond_both (ltb w.e.frame.len w.e.frame.total) (out_of 0 w) (execs g w) (λ (o : Out). Fit o.w)
       (λ t. record { mid = m; frame = (λ z. absurd (n z), λ _. ltb-true w.e.frame.len w.e.frame.total t, h) })
       (λ _. exec_fit w m)
 
@@ -142,8 +132,8 @@ module _ (g : Given) where
   fills_fit : (w : World) → Mid w → w.e.frame.total ≤ 8208 → Fit (fills g w).w
   unfolding fills
   fills_fit w m h =
-      picked (λ (o : Out). Fit o.w) (eqb w.e.frame.total 0) (cond (ltb w.e.frame.len 16) (out_of 0 w) (heads g w)) (ripens g w)
-      (λ z. picked (λ (o : Out). Fit o.w) (ltb w.e.frame.len 16) (out_of 0 w) (heads g w)
+      cond_both (eqb w.e.frame.total 0) (cond (ltb w.e.frame.len 16) (out_of 0 w) (heads g w)) (ripens g w) (λ (o : Out). Fit o.w)
+      (λ z. cond_both (ltb w.e.frame.len 16) (out_of 0 w) (heads g w) (λ (o : Out). Fit o.w)
       (λ t. record { mid = m; frame = (λ _. ltb-true w.e.frame.len 16 t, λ n. absurd (n (eqb-true w.e.frame.total 0 z)), h) })
       (λ _. heads_fit w m))
       (λ z. ripe_fit w m h (eqb-false w.e.frame.total 0 z))
@@ -152,37 +142,24 @@ module _ (g : Given) where
 
 -- what is wanted is some
 pub want_some : (w : World) → Fit w → 0 < want_of w.e
-unfolding want_by
 want_some w k =
     let f = w.e.frame in
-    picked (λ (n : ℕ). 0 < n) (eqb w.e.up.left 0) (cond (eqb f.total 0) (16 - f.len) (f.total - f.len)) w.e.up.left
-    (λ _. picked (λ (n : ℕ). 0 < n) (eqb f.total 0) (16 - f.len) (f.total - f.len)
+    cond_both (eqb w.e.up.left 0) (cond (eqb f.total 0) (16 - f.len) (f.total - f.len)) w.e.up.left (λ (n : ℕ). 0 < n)
+    (λ _. cond_both (eqb f.total 0) (16 - f.len) (f.total - f.len) (λ (n : ℕ). 0 < n)
     (λ z. let i = k.frame.0 (eqb-true f.total 0 z) in omega arith)
     (λ z. let i = k.frame.1 (eqb-false f.total 0 z) in omega arith))
     (λ z. let i = eqb-false w.e.up.left 0 z in omega arith)
 
 -- of a stream, no more than is left
 pub want_stream : (e : Engine) → (e.up.left ≡ 0 → ⊥) → want_of e ≡ e.up.left
-unfolding want_by
 want_stream e h =
-    picked (λ (n : ℕ). n ≡ e.up.left) (eqb e.up.left 0) (cond (eqb e.frame.total 0) (16 - e.frame.len) (e.frame.total - e.frame.len)) e.up.left
+    cond_both (eqb e.up.left 0) (cond (eqb e.frame.total 0) (16 - e.frame.len) (e.frame.total - e.frame.len)) e.up.left (λ (n : ℕ). n ≡ e.up.left)
     (λ z. absurd (h (eqb-true e.up.left 0 z))) (λ _. refl)
-
--- of a frame, no more than the request room takes
-pub want_frame : (e : Engine) → FrameFit e.frame → e.up.left ≡ 0 → e.frame.len + want_of e ≤ 8208
-unfolding want_by
-want_frame e k h =
-    let f = e.frame in
-    picked (λ (n : ℕ). f.len + n ≤ 8208) (eqb e.up.left 0) (cond (eqb f.total 0) (16 - f.len) (f.total - f.len)) e.up.left
-    (λ _. picked (λ (n : ℕ). f.len + n ≤ 8208) (eqb f.total 0) (16 - f.len) (f.total - f.len)
-    (λ z. let i = k.0 (eqb-true f.total 0 z) in omega arith)
-    (λ z. let i = k.1 (eqb-false f.total 0 z) in omega (arith, k.2)))
-    (λ z. absurd (eqb-false e.up.left 0 z h))
 
 pub turn_fit : (g : Given) (p : List ℕ) (w : World) → length p ≤ want_of w.e → Fit w → Fit (turns g p w).w
 unfolding turns gathers
 turn_fit g p w n k =
-    picked (λ (o : Out). Fit o.w) (eqb w.e.up.left 0) (gathers g p w) (streams g.lent p w)
+    cond_both (eqb w.e.up.left 0) (gathers g p w) (streams g.lent p w) (λ (o : Out). Fit o.w)
     (λ _. fills_fit g (grown w p)
     (record { request = length-sets w.request w.e.frame.len p ∙ k.mid.request; reply = k.mid.reply; said = k.mid.said; up = k.mid.up }) k.frame.2)
     (λ z. stream_fit g.lent p w (omega (arith, want_stream w.e (eqb-false w.e.up.left 0 z))) k)

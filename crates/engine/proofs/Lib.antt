@@ -1,17 +1,15 @@
--- The laws of the definitions. For the functions above: `text_fits` and `window_fits` of Windows, `boot_length` of Tables.
-pub mod Numbers
+mod Lines
+mod Runnings
+mod Tables
+pub mod Told
 pub mod Commands
 pub mod Replies
-pub mod Streams
-pub mod Storings
-pub mod Runnings
+mod Streams
 pub mod Tidies
-pub mod Execs
-pub mod Shorts
+mod Execs
+pub mod Storings
 pub mod Frames
 pub mod Fits
 pub mod Feeds
 pub mod Apis
-pub mod Lines
 pub mod Windows
-pub mod Tables

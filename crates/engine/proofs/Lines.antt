@@ -1,71 +1,84 @@
--- Laws of shell lines: tests that are tried one after another, and the tokens of a line by the places where they start.
-use Rattle.std.proofs.Common.{◌≡◌, ℕ, Bool, true, false, cond, List, drop, sym, refl, ap, ◌∙◌}
-use Rattle.text.specs.Token.{until, place_after, rest_of}
+-- Laws of shell lines: the tokens of a line by the places where they start, and what is
+-- made of their numbers.
+use Rattle.std.proofs.Common.{◌≡◌, ℕ, List, [], ◌∷◌, drop, Option, Some, None, sym, refl, ap, ◌∙◌}
+use Rattle.std.specs.Option.{OnSome}
+use Rattle.text.specs.Token.{until, tokens_of, place_after, rest_of}
 use Rattle.text.specs.Number.{number_in}
 use Rattle.text.proofs.Tokens.{tokens_from}
-use Rattle.text.specs.declared.number.Number.{Number}
-use Rattle.text.specs.declared.number.Number.TheVariants as number
-use Rattle.text.specs.declared.token.Place.{Place}
-use Rattle.text.specs.declared.token.Place.TheVariants as place
-use Rattle.engine.specs.Shell.{asked, command, line_of, on_number, with_number, with_id, next_by, next_at, id_past, word_of}
+use Rattle.engine.specs.Shell.{on_number, with_number, with_id, behind, three_of}
 use Rattle.engine.specs.declared.shell.Line.{Line}
-use Rattle.engine.specs.declared.shell.Line.TheVariants as line
-use Rattle.engine.specs.declared.shell.Next.{Next}
-use Rattle.engine.specs.declared.shell.Next.TheVariants as next
-use Rattle.engine.specs.declared.shell.Word.{Word}
-
--- ---- tests, tried one after another: b is what the first gave
-
-module _ {A : Type 0} (x y : A) {t b : Bool} (e : b ≡ t) where
-  pub chosen : b ≡ true → x ≡ cond t x y
-  chosen h = ap (λ (u : Bool). cond u x y) (sym h ∙ e)
-
-  pub passed : {r : A} → b ≡ false → r ≡ y → r ≡ cond t x y
-  passed h k = k ∙ ap (λ (u : Bool). cond u x y) (sym h ∙ e)
-
-pub same_word : {w : Word} → w ≡ w
-same_word = refl
-
-pub ruleset words = (chosen, passed, same_word)
 
 -- ---- the tokens from a place on
 
-module _ (s : List ℕ) where
-  -- what is made of the number at a place
-  on_next : (ℕ → List (List ℕ) → Line) → Next → Line
-  on_next f (next.Number n p) = f n (rest_of s p)
-  on_next f next.Bad = line.Bad
+module _ (s : List ℕ) {q : Option ℕ} where
+  pub number_none : q ≡ None → {A : Type 0} (f : ℕ → List (List ℕ) → Option A) → None ≡ with_number f (rest_of s q)
+  unfolding rest_of
+  number_none h f = rw h
 
-  next_is : (f : ℕ → List (List ℕ) → Line) (p : Place) → with_number f (rest_of s p) ≡ on_next f (next_at s p)
-  unfolding on_next with_number rest_of next_at
-  next_is f place.Done = refl
-  next_is f (place.At p) = ap (with_number f) (tokens_from s p) ∙ go (number_in (until 0x20 (drop p s)))
+  -- one stands there
+  module _ {p : ℕ} (h : q ≡ Some p) where
+    rest_is : rest_of s q ≡ until 0x20 (drop p s) ∷ rest_of s (place_after s p)
+    unfolding rest_of
+    rest_is = ap (rest_of s) h ∙ tokens_from s p
+
+    pub skip_some : {r : Option ℕ} → r ≡ place_after s p → rest_of s r ≡ behind (rest_of s q)
+    skip_some e = ap (rest_of s) e ∙ sym (ap behind rest_is)
+
+    pub number_some : {t : List ℕ} {x : Option ℕ} → t ≡ until 0x20 (drop p s) → x ≡ number_in t
+        → x ≡ with_number (λ n ts. Some n) (rest_of s q)
+    number_some {x = x} a e =
+        go x ∙ ap (on_number (λ (n : ℕ). Some n)) (e ∙ ap number_in a) ∙ sym (ap (with_number (λ (n : ℕ) (ts : List (List ℕ)). Some n)) rest_is)
+      where
+        go : (y : Option ℕ) → y ≡ on_number (λ (n : ℕ). Some n) y
+        go (Some n) = refl
+        go None = refl
+
+pub on_some : {P : Type 0} (o : Option ℕ) → P → OnSome o P
+on_some (Some n) p = p
+on_some None p = tt
+
+-- ---- three numbers
+
+abbrev on_three : (ℕ → ℕ → ℕ → Line) → Option (ℕ × ℕ × ℕ) → Option Line
+on_three f (Some (a, b, c)) = Some (f a b c)
+on_three f None = None
+
+module _ (f : ℕ → ℕ → ℕ → Line) where
+  three_last : (a b : ℕ) (ts : List (List ℕ)) → on_three f (with_number (λ c us. Some (a, b, c)) ts) ≡ with_number (λ c us. Some (f a b c)) ts
+  three_last a b [] = refl
+  three_last a b (t ∷ ts) = go (number_in t)
     where
-      go : (n : Number) → on_number (λ n. f n (rest_of s (place_after s p))) n ≡ on_next f (next_by (place_after s p) n)
-      go (number.Value n) = refl
-      go number.Bad = refl
+      go : (o : Option ℕ) → on_three f (on_number (λ c. Some (a, b, c)) o) ≡ on_number (λ c. Some (f a b c)) o
+      go (Some c) = refl
+      go None = refl
 
-  module _ (p : Place) (f : ℕ → List (List ℕ) → Line) {x : Next} (e : x ≡ next_at s p) where
-    -- no number stands there
-    pub next_bad : x ≡ next.Bad → line.Bad ≡ with_number f (rest_of s p)
-    unfolding on_next
-    next_bad h = ap (on_next f) (sym h ∙ e) ∙ sym (next_is f p)
-
-    -- a number stands there, and the rest goes on from the next place
-    pub next_good : {n : ℕ} {q : Place} {r : Line} → x ≡ next.Number n q → r ≡ f n (rest_of s q) → r ≡ with_number f (rest_of s p)
-    unfolding on_next
-    next_good h k = k ∙ ap (on_next f) (sym h ∙ e) ∙ sym (next_is f p)
-
-  -- what follows the id goes on from the place behind it
-  pub id_past_lem : (p : Place) (f : ℕ → List (List ℕ) → Line) {q : Place} → q ≡ id_past s p → with_number f (rest_of s q) ≡ with_id (with_number f) (rest_of s p)
-  unfolding with_number with_id rest_of id_past
-  id_past_lem p f e = ap (λ (r : Place). with_number f (rest_of s r)) e ∙ go p
+  three_next : (a : ℕ) (ts : List (List ℕ))
+      → on_three f (with_number (λ b. with_number (λ c us. Some (a, b, c))) ts) ≡ with_number (λ b. with_number (λ c us. Some (f a b c))) ts
+  three_next a [] = refl
+  three_next a (t ∷ ts) = go (number_in t)
     where
-      go : (p : Place) → with_number f (rest_of s (id_past s p)) ≡ with_id (with_number f) (rest_of s p)
-      go place.Done = refl
-      go (place.At p) = sym (ap (with_id (with_number f)) (tokens_from s p))
+      go : (o : Option ℕ)
+          → on_three f (on_number (λ b. with_number (λ c us. Some (a, b, c)) ts) o) ≡ on_number (λ b. with_number (λ c us. Some (f a b c)) ts) o
+      go (Some b) = three_last a b ts
+      go None = refl
 
-  -- the command word v is the token at the start, and what it asks for follows
-  pub line_is : {t : List ℕ} {w v : Word} {p : Place} → t ≡ until 0x20 s → w ≡ word_of t → p ≡ place_after s 0 → w ≡ v → asked v (rest_of s p) ≡ line_of s
-  unfolding line_of
-  line_is a b d e = rw (← e, b, a, d) (sym (ap command (tokens_from s 0)))
+  three_all : (ts : List (List ℕ)) → on_three f (three_of ts) ≡ with_number (λ a. with_number (λ b. with_number (λ c us. Some (f a b c)))) ts
+  three_all [] = refl
+  three_all (t ∷ ts) = go (number_in t)
+    where
+      go : (o : Option ℕ)
+          → on_three f (on_number (λ a. with_number (λ b. with_number (λ c us. Some (a, b, c))) ts) o)
+          ≡ on_number (λ a. with_number (λ b. with_number (λ c us. Some (f a b c))) ts) o
+      go (Some a) = three_next a ts
+      go None = refl
+
+  -- behind an id
+  pub three_id : (ts : List (List ℕ)) → on_three f (three_of (behind ts)) ≡ with_id (with_number (λ a. with_number (λ b. with_number (λ c us. Some (f a b c))))) ts
+  three_id [] = refl
+  three_id (t ∷ ts) = three_all ts
+
+-- ---- a line
+
+-- the first token, and those behind it
+pub first_token : (s : List ℕ) → tokens_of s ≡ until 0x20 s ∷ rest_of s (place_after s 0)
+first_token s = tokens_from s 0

@@ -1,24 +1,21 @@
 -- A reply as the code lays it, data first and then the header, is the reply as it is defined.
-use Rattle.std.proofs.Common.{◌≡◌, ℕ, ◌+◌, ◌≤◌, Bool, true, false, List, [], ◌++◌, length, take, drop, replicate, sym, refl, ap, ◌∙◌, append_assoc, zero-add, arith, length-append, length-take-le, drop_at, le-leb}
+use Rattle.std.proofs.Common.{◌≡◌, ℕ, ◌+◌, ◌≤◌, Bool, true, false, List, [], ◌++◌, length, take, drop, replicate, sym, refl, ap, ◌∙◌, append_assoc, zero-add, arith, length-append, length-take-le, drop_at}
 use lib.ListN.{length-replicate}
 use lib.Seq.{sets, length-sets, sets-eq}
 use Rattle.wire.specs.Bytes.{bytes_of, laid}
 use Rattle.wire.specs.Header.{header_of}
+use Rattle.storage.proofs.Fold.{laid_sets}
 use Rattle.engine.specs.World.{World, with_said, at_e, at_reply, out_of}
 use Rattle.engine.proofs.Commands.{laid_none}
-use Rattle.engine.specs.Reply.{Answer, ok, fail, unsupported, odd, whether, status_by, reply_by, replied, ends, ended_by, placed, status_is, header_is, length_is, ends_by}
+use Rattle.engine.specs.Reply.{Answer, ok, fail, unsupported, odd, whether, status_by, reply_by, replied, ends, ended_by, placed, ends_by}
 
 -- a header has sixteen bytes
 pub header_length : (magic command status len : ℕ) → length (header_of magic command status len) ≡ 16
 unfolding header_of bytes_of
 header_length magic command status len = refl
 
-pub laid_sets : (s : List ℕ) (at : ℕ) (xs : List ℕ) → at + length xs ≤ length s → laid s at xs ≡ sets s at xs
-unfolding laid
-laid_sets s at xs h = rw (le-leb (at + length xs) (length s) h)
-
 -- what is laid at the front
-front_is : (s xs : List ℕ) → length xs ≤ length s → sets s 0 xs ≡ xs ++ drop (length xs) s
+pub front_is : (s xs : List ℕ) → length xs ≤ length s → sets s 0 xs ≡ xs ++ drop (length xs) s
 front_is s xs h =
     let z : 0 + length xs ≡ length xs = zero-add (length xs) in
     sets-eq xs s 0 (omega arith) ∙ ap (λ (k : ℕ). xs ++ drop k s) z
@@ -32,8 +29,8 @@ laid_before s xs ys h =
     let l : length (sets s n ys) ≡ length s = length-sets s n ys in
     let z : length (xs ++ ys) ≡ n + length ys = length-append xs ys in
     let d : drop n (sets s n ys) ≡ ys ++ drop (n + length ys) s = ap (drop n) a ∙ drop_at (take n s) (ys ++ drop (n + length ys) s) n (length-take-le n s m) in
-    ap (λ (t : List ℕ). laid t 0 xs) (laid_sets s n ys h)
-    ∙ laid_sets (sets s n ys) 0 xs (rw l (omega arith))
+    ap (λ (t : List ℕ). laid t 0 xs) (laid_sets n s ys h)
+    ∙ laid_sets 0 (sets s n ys) xs (rw l (omega arith))
     ∙ front_is (sets s n ys) xs (rw l m)
     ∙ ap (λ (t : List ℕ). xs ++ t) d
     ∙ sym (append_assoc xs ys (drop (n + length ys) s))
@@ -64,10 +61,10 @@ alone : (magic command status len : ℕ) (s : List ℕ) → length s ≡ 4112
 alone magic command status len s e =
     let x = header_of magic command status len in
     let n : length x ≡ 16 = header_length magic command status len in
-    laid_sets s 0 x (omega arith)
+    laid_sets 0 s x (omega arith)
 
 pub ends_is : (command : ℕ) (a : Answer) (w : World) → length w.reply ≡ 4112 → Brief a → ends_by command (ended_by a) (at_reply (placed a w.reply) w) ≡ ends command a w
-unfolding ends replied status_by reply_by ends_by status_is header_is length_is
+unfolding ends replied status_by reply_by
 ends_is command (ok bytes) w e h =
     let x = header_of 0x52475055 command 0 (length bytes) in
     said_as w _ _ _ _ _ (omega (arith, length-append x bytes, header_length 0x52475055 command 0 (length bytes))) (front 0x52475055 command 0 (length bytes) w.reply bytes e h)

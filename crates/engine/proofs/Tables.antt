@@ -1,7 +1,6 @@
 -- Laws of the device table: the name's address, the cases of the name, and that the table is as long as its room.
-use Rattle.std.proofs.Common.{◌≡◌, ℕ, ◌+◌, ◌%◌, ◌^◌, ◌<◌, ◌≤◌, Bool, true, false, cond, leb, List, length, replicate, sym, refl, ap, ◌∙◌, ap₂, le-leb}
+use Rattle.std.proofs.Common.{◌≡◌, ℕ, ◌+◌, ◌%◌, ◌^◌, Bool, true, false, cond, leb, List, length, replicate, sym, refl, ap, ◌∙◌}
 use native.Mathlib.Nat.{mod-add-mod, add-mod-mod}
-use borrow.Author.Tests.{lt-leb}
 use lib.ListN.{length-replicate}
 use lib.Seq.{sets, length-sets}
 use Rattle.text.specs.Token.{ascii}
@@ -17,18 +16,6 @@ laid_length s at xs = go (leb (at + length xs) (length s))
     go false = refl
 
 module _ (base at : ℕ) (s : List ℕ) where
-  pub name_none : length s < 0x52 → s ≡ boot_name base at s
-  unfolding boot_name
-  name_none h = rw (lt-leb 0x52 (length s) h)
-
-  -- two wrapping adds are one sum modulo 2^32
-  pub name_put : 0x52 ≤ length s → {x y : ℕ} {u v : List ℕ} → x ≡ (base + at) % 2 ^ 32 → y ≡ (x + 0x40) % 2 ^ 32
-      → u ≡ laid s 0x40 (ascii "artinchip spi-nor\0") → v ≡ put_word u 0x24 y → v ≡ boot_name base at s
-  unfolding boot_name
-  name_put h a b d e =
-      e ∙ ap₂ (λ (l : List ℕ) (k : ℕ). put_word l 0x24 k) d (b ∙ ap (λ (k : ℕ). (k + 0x40) % 2 ^ 32) a ∙ mod-add-mod (base + at) (2 ^ 32) 0x40)
-      ∙ rw (le-leb 0x52 (length s) h)
-
   name_length : length (boot_name base at s) ≡ length s
   unfolding boot_name
   name_length = go (leb 0x52 (length s))

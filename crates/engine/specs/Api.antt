@@ -1,38 +1,35 @@
 -- The engine's public calls: openings, write, read, reset and the two flags (01, 'Replies and refusals', row 9 and 'In bounds').
-use Rattle.std.specs.Prelude.{ℕ, ◌+◌, ◌-◌, ◌^◌, min, Bool, false, cond, ◌&&◌, List, length, take, drop, replicate, ◌==◌, nat_le, nat_lt}
+use Rattle.std.specs.Prelude.{ℕ, ◌+◌, ◌-◌, ◌^◌, min, Bool, false, cond, ◌&&◌, List, length, take, drop, replicate, ◌==◌, nat_le, nat_lt, Result, Ok, Err, None}
 use Rattle.std.proofs.lemmas.List.Edits.{sets}
 use Rattle.storage.specs.Open as opens
-use Rattle.storage.specs.Open.{scratch_ok}
+use Rattle.storage.specs.Open.{scratch_ok, refusal_number}
 use Rattle.storage.specs.Partition.{Lists, lists_ok}
 use Rattle.storage.specs.Store.{good}
-use Rattle.storage.specs.declared.open.Opened.{Opened}
-use Rattle.storage.specs.declared.open.Opened.TheVariants.{Ready, Refused}
-use Rattle.storage.specs.declared.types.Erased.TheVariants.{None}
+use Rattle.storage.specs.declared.types.Refusal.{Refusal}
+use Rattle.storage.specs.declared.types.CallError.{CallError}
+use Rattle.storage.specs.declared.types.CallError.TheVariants.{Refused}
+use Rattle.storage.specs.World.{status_in, count_in}
 use Rattle.storage.specs.declared.types.Kind.TheVariants.{Nor}
 use Rattle.storage.specs.declared.types.Store.{Store}
 use Rattle.engine.specs.declared.types.Engine.{Engine}
 use Rattle.engine.specs.declared.types.Frame.{Frame}
 use Rattle.engine.specs.declared.types.Said.{Said}
 use Rattle.engine.specs.declared.types.Update.{Update}
-use Rattle.engine.specs.declared.api.Opening.{Opening}
-use Rattle.engine.specs.declared.api.Got.{Got}
-use Rattle.engine.specs.declared.api.Got.TheVariants as got
-use Rattle.engine.specs.declared.api.Taken.{Taken}
 use Rattle.engine.specs.World.{Given, World, with_said, dev_of, Out, out_of}
 use Rattle.engine.specs.Feed.{feeds}
 
 -- ---- row 9
 
 -- the request room has 8,208 bytes, the reply room 4,112
-unfoldable pub rooms_ok : ℕ → ℕ → Bool
+abbrev pub rooms_ok : ℕ → ℕ → Bool
 rooms_ok request reply = request == 8208 && reply == 4112
 
 -- request length under 16 with total 0, else under the total, itself at most 8,208
-unfoldable pub frame_ok : Frame → Bool
+abbrev pub frame_ok : Frame → Bool
 frame_ok f = cond (f.total == 0) (nat_lt f.len 16) (nat_lt f.len f.total && nat_le f.total 8208)
 
 -- reply place within its length, that within 4,112
-unfoldable pub said_ok : Said → Bool
+abbrev pub said_ok : Said → Bool
 said_ok s = nat_le s.pos s.len && nat_le s.len 4112
 
 -- target at most 2^31; written plus stream left under 2^32
@@ -82,16 +79,25 @@ no_store =
       calls = 0;
     }
 
--- 01's number of an opening's answer, and the engine
+-- what an opening leaves: 0 and an engine, or 01's number of the refusal and an engine that no later call takes
+pub record Opening : Type 0 where
+  pub number : ℕ
+  pub e : Engine
+
 abbrev pub ready : Engine → Opening
 ready e = record { number = 0; e = e }
 
 abbrev pub refused : ℕ → Opening
 refused n = record { number = n; e = fresh 0 no_store }
 
-abbrev pub opened_by : ℕ → Opened → Opening
-opened_by base (Ready s) = ready (fresh base s)
-opened_by base (Refused n) = refused n
+abbrev pub opened_by : ℕ → Result Store Refusal → Opening
+opened_by base (Ok s) = ready (fresh base s)
+opened_by base (Err r) = refused (refusal_number r)
+
+-- the same of what the code answers
+abbrev pub opening : Result Engine Refusal → Opening
+opening (Ok e) = ready e
+opening (Err r) = refused (refusal_number r)
 
 -- refusal 9 for the rooms, then the storage's own, from the lengths of request and reply and then as the storage's opening
 unfoldable pub opened_nor : ℕ → ℕ → ℕ → ℕ → Lists → ℕ → ℕ → ℕ → ℕ → Opening
@@ -111,18 +117,18 @@ writes g w d = cond (fits g w) (feeds g w d) (out_of 9 w)
 
 -- what a read answers, the record, and the room
 pub record Read : Type 0 where
-  pub got : Got
+  pub got : Result ℕ CallError
   pub e : Engine
   pub room : List ℕ
 
-abbrev pub took : Taken → List ℕ → Read
-took r room = record { got = r.got; e = r.e; room = room }
+abbrev pub took : Result ℕ CallError → Engine → List ℕ → Read
+took got e room = record { got = got; e = e; room = room }
 
 -- the next n bytes of the reply are copied, and no byte of the room beyond is touched
 abbrev pub read_by : World → List ℕ → ℕ → Read
 read_by w room n =
     record {
-      got = got.Count n;
+      got = Ok n;
       e = with_said (record { len = w.e.said.len; pos = w.e.said.pos + n }) w.e;
       room = sets room 0 (take n (drop w.e.said.pos w.reply));
     }
@@ -130,12 +136,11 @@ read_by w room n =
 -- as many as wait and the room takes
 unfoldable pub reads : Given → World → List ℕ → Read
 reads g w room =
-    cond (fits g w) (read_by w room (min (w.e.said.len - w.e.said.pos) (length room))) (record { got = got.Refused; e = w.e; room = room })
+    cond (fits g w) (read_by w room (min (w.e.said.len - w.e.said.pos) (length room))) (record { got = Err Refused; e = w.e; room = room })
 
 -- 01's numbers of a read's answer: 9 and no count, or 0 and the count
-abbrev pub got_numbers : Got → ℕ × ℕ
-got_numbers got.Refused = (9, 0)
-got_numbers (got.Count n) = (0, n)
+abbrev pub got_numbers : Result ℕ CallError → ℕ × ℕ
+got_numbers got = (status_in got, count_in got)
 
 -- ---- reset
 

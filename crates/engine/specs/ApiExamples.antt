@@ -1,6 +1,6 @@
 -- Worked examples of the public calls, each by computing, on the engine of 01's replay program: its opening and one that is refused,
 -- the replay pair (P1), a refused header, a write of no bytes, a write that is refused.
-use Rattle.std.specs.Prelude.{◌≡◌, ℕ, List, [], ◌∷◌, ◌++◌, take, drop, replicate, refl}
+use Rattle.std.specs.Prelude.{◌≡◌, ℕ, List, [], ◌∷◌, ◌++◌, take, drop, replicate, refl, Ok, Err}
 use Rattle.text.specs.Utf8.{begins, any_of, utf8_1, utf8_char, first_of, char_len, octets, is_utf8}
 use Rattle.text.specs.Token.{ascii}
 use Rattle.wire.specs.Bytes.{bytes_of, le, word_at}
@@ -12,15 +12,14 @@ use Rattle.storage.specs.Open.{one_of, nor_size, scratch_ok, held_ok, in_bounds,
 use Rattle.storage.specs.Nor.{flushes}
 use Rattle.storage.specs.Store.{good, by_good, flushing}
 use Rattle.engine.specs.declared.types.Engine.{Engine}
-use Rattle.engine.specs.declared.api.Got.TheVariants as got
+use Rattle.storage.specs.declared.types.CallError.TheVariants.{Refused}
 use Rattle.engine.specs.World.{Given, given, World, world, at_e, Out, out_of}
 use Rattle.engine.specs.Reply.{status_by, reply_by, replied, ends}
-use Rattle.engine.specs.Command.{is_query}
 use Rattle.engine.specs.Storing.{crc_query, probed}
-use Rattle.engine.specs.Exec.{group_of, storing, runs, order_of, performs, execs}
-use Rattle.engine.specs.Frame.{next_of, ripens, heads, fills, gathers}
-use Rattle.engine.specs.Feed.{want_by, turns, then_by, goes, feeds}
-use Rattle.engine.specs.Api.{rooms_ok, frame_ok, said_ok, up_ok, engine_ok, fits, fresh, ready, refused, opened_nor, writes, reads}
+use Rattle.engine.specs.Exec.{storing, runs, performs, execs}
+use Rattle.engine.specs.Frame.{ripens, heads, fills, gathers}
+use Rattle.engine.specs.Feed.{turns, then_by, goes, feeds}
+use Rattle.engine.specs.Api.{up_ok, engine_ok, fits, fresh, ready, refused, opened_nor, writes, reads}
 
 -- ---- openings
 
@@ -37,7 +36,7 @@ pub openings :
     × (opened_nor 8207 4112 32768 4095 app 0x40000000 4096 0 0 ≡ refused 9)
     × (opened_nor 8208 4113 32768 4096 app 0x40000000 4096 0 0 ≡ refused 9)
     × (opened_nor 8208 4112 32768 4095 app 0x40000000 4096 0 0 ≡ refused 10)
-unfolding rooms_ok opened_nor opens.opened_nor nor_size lists_ok parts parts_of total all part_ok table_end end_of scratch_ok is_utf8 octets char_len first_of utf8_char utf8_1 any_of begins
+unfolding opened_nor opens.opened_nor nor_size lists_ok parts parts_of total all part_ok table_end end_of scratch_ok is_utf8 octets char_len first_of utf8_char utf8_1 any_of begins
 openings = (refl, refl, refl, refl)
 
 -- ---- calls
@@ -69,7 +68,7 @@ pub replay_writes :
     (shown (writes lends start asked) ≡ (0, 0, answer))
     × (shown (writes lends start (take 5 asked)) ≡ (0, 5, []))
     × (shown (writes lends (after (take 5 asked) start) (drop 5 asked)) ≡ (0, 0, answer))
-unfolding rooms_ok frame_ok said_ok up_ok engine_ok fits writes good in_bounds parts_fit nor_size held_ok lists_ok parts parts_of total all part_ok scratch_ok is_utf8 octets char_len first_of utf8_char utf8_1 any_of begins bytes_of le word_at checksum_of header_of accepted parsed feeds goes then_by want_by turns gathers fills heads next_of ripens execs order_of performs runs group_of one_of storing crc_query probed flushing by_good flushes ends replied reply_by status_by is_query
+unfolding up_ok engine_ok fits writes good in_bounds parts_fit nor_size held_ok lists_ok parts parts_of total all part_ok scratch_ok is_utf8 octets char_len first_of utf8_char utf8_1 any_of begins bytes_of le word_at checksum_of header_of accepted parsed feeds goes then_by turns gathers fills heads ripens execs performs runs one_of storing crc_query probed flushing by_good flushes ends replied reply_by status_by
 replay_writes = (refl, refl, refl)
 
 -- the engine after a read into a room of so many bytes
@@ -78,25 +77,25 @@ past n w = at_e (reads lends w (replicate n 7)).e w
 
 -- P1, the read: twenty bytes into a room of 64, whose other bytes stay. A room of 12 takes twelve and the next the rest; then none wait
 pub replay_reads :
-    ((reads lends (after asked start) (replicate 64 7)).got ≡ got.Count 20)
+    ((reads lends (after asked start) (replicate 64 7)).got ≡ Ok 20)
     × ((reads lends (after asked start) (replicate 64 7)).room ≡ answer ++ replicate 44 7)
     × ((reads lends (after asked start) (replicate 12 7)).room ≡ take 12 answer)
     × ((reads lends (past 12 (after asked start)) (replicate 64 7)).room ≡ drop 12 answer ++ replicate 56 7)
-    × ((reads lends (past 64 (after asked start)) (replicate 64 7)).got ≡ got.Count 0)
-unfolding reads rooms_ok frame_ok said_ok up_ok engine_ok fits writes good in_bounds parts_fit nor_size held_ok lists_ok parts parts_of total all part_ok scratch_ok is_utf8 octets char_len first_of utf8_char utf8_1 any_of begins bytes_of le word_at checksum_of header_of accepted parsed feeds goes then_by want_by turns gathers fills heads next_of ripens execs order_of performs runs group_of one_of storing crc_query probed flushing by_good flushes ends replied reply_by status_by is_query
+    × ((reads lends (past 64 (after asked start)) (replicate 64 7)).got ≡ Ok 0)
+unfolding reads up_ok engine_ok fits writes good in_bounds parts_fit nor_size held_ok lists_ok parts parts_of total all part_ok scratch_ok is_utf8 octets char_len first_of utf8_char utf8_1 any_of begins bytes_of le word_at checksum_of header_of accepted parsed feeds goes then_by turns gathers fills heads ripens execs performs runs one_of storing crc_query probed flushing by_good flushes ends replied reply_by status_by
 replay_reads = (refl, refl, refl, refl, refl)
 
 -- a header that is refused leaves the reply that waits; a write of no bytes leaves all
 pub kept :
     (shown (writes lends (after asked start) (replicate 16 0)) ≡ (1, 0, answer))
     × (writes lends start [] ≡ out_of 0 start)
-unfolding rooms_ok frame_ok said_ok up_ok engine_ok fits writes good in_bounds parts_fit nor_size held_ok lists_ok parts parts_of total all part_ok scratch_ok is_utf8 octets char_len first_of utf8_char utf8_1 any_of begins bytes_of le word_at checksum_of header_of accepted parsed feeds goes then_by want_by turns gathers fills heads next_of ripens execs order_of performs runs group_of one_of storing crc_query probed flushing by_good flushes ends replied reply_by status_by is_query
+unfolding up_ok engine_ok fits writes good in_bounds parts_fit nor_size held_ok lists_ok parts parts_of total all part_ok scratch_ok is_utf8 octets char_len first_of utf8_char utf8_1 any_of begins bytes_of le word_at checksum_of header_of accepted parsed feeds goes then_by turns gathers fills heads ripens execs performs runs one_of storing crc_query probed flushing by_good flushes ends replied reply_by status_by
 kept = (refl, refl)
 
 -- a request room that is a byte short, and the engine of a refused opening
 pub refuses :
     (writes lends (world engine (replicate 8207 0) [] [] [] []) asked ≡ out_of 9 (world engine (replicate 8207 0) [] [] [] []))
     × (writes lends (at_e (refused 9).e start) asked ≡ out_of 9 (at_e (refused 9).e start))
-    × (reads lends (at_e (refused 9).e start) (7 ∷ []) ≡ record { got = got.Refused; e = (refused 9).e; room = 7 ∷ [] })
-unfolding reads rooms_ok frame_ok said_ok up_ok engine_ok fits writes good in_bounds parts_fit nor_size held_ok lists_ok parts parts_of total all part_ok scratch_ok is_utf8 octets char_len first_of utf8_char utf8_1 any_of begins bytes_of le word_at checksum_of header_of accepted parsed feeds goes then_by want_by turns gathers fills heads next_of ripens execs order_of performs runs group_of one_of storing crc_query probed flushing by_good flushes ends replied reply_by status_by is_query
+    × (reads lends (at_e (refused 9).e start) (7 ∷ []) ≡ record { got = Err Refused; e = (refused 9).e; room = 7 ∷ [] })
+unfolding reads up_ok engine_ok fits writes good in_bounds parts_fit nor_size held_ok lists_ok parts parts_of total all part_ok scratch_ok is_utf8 octets char_len first_of utf8_char utf8_1 any_of begins bytes_of le word_at checksum_of header_of accepted parsed feeds goes then_by turns gathers fills heads ripens execs performs runs one_of storing crc_query probed flushing by_good flushes ends replied reply_by status_by
 refuses = (refl, refl, refl)

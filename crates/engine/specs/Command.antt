@@ -1,5 +1,5 @@
 -- The commands of `execute_inner` that need no storage call, and those of scratch (01, 'Frame rules').
-use Rattle.std.specs.Prelude.{ℕ, ◌+◌, ◌-◌, Bool, false, cond, ◌&&◌, List, [], ◌∷◌, ◌++◌, length, take, drop, replicate, ◌==◌, nat_le}
+use Rattle.std.specs.Prelude.{ℕ, ◌+◌, ◌-◌, Bool, false, cond, ◌&&◌, List, [], ◌∷◌, ◌++◌, length, take, drop, replicate, ◌==◌, nat_le, Option, None, Some, Result}
 use Rattle.std.proofs.lemmas.List.Edits.{sets}
 use Rattle.text.specs.Token.{ascii}
 use Rattle.wire.specs.Bytes.{bytes_of, word_at}
@@ -8,16 +8,14 @@ use Rattle.storage.specs.Open.{one_of, block_size_of, is_nand}
 use Rattle.engine.specs.declared.types.Engine.{Engine}
 use Rattle.engine.specs.declared.command.Short.{Short}
 use Rattle.engine.specs.declared.command.Short.TheVariants.{Other, Empty, Word}
-use Rattle.engine.specs.declared.command.Pair.{Pair}
-use Rattle.engine.specs.declared.command.Pair.TheVariants.{Cut, Both}
-use Rattle.engine.specs.declared.types.Ended.{Ended}
+use Rattle.engine.specs.declared.types.Failure.{Failure}
 use Rattle.engine.specs.Reply.{Answer, ok, fail, unsupported, sent, ended_by}
 
 -- the commands that only look: they do not raise `host_upgrading` (`is_status_query`)
 abbrev pub queries : List ℕ
 queries = 0x00 ∷ 0x01 ∷ 0x03 ∷ 0x08 ∷ 0x09 ∷ 0x0C ∷ 0x0D ∷ 0x11 ∷ 0x13 ∷ 0x14 ∷ 0x15 ∷ 0x16 ∷ 0x17 ∷ 0x18 ∷ 0x1A ∷ []
 
-unfoldable pub is_query : ℕ → Bool
+abbrev pub is_query : ℕ → Bool
 is_query c = one_of queries c
 
 -- text in a field of n bytes, with zeros behind it
@@ -37,12 +35,12 @@ unfoldable pub geometry : ℕ → ℕ → List ℕ
 geometry capacity block = bytes_of 8 capacity ++ bytes_of 4 block ++ bytes_of 4 block ++ replicate 8 0
 
 -- the partition table's text; an empty one fails
-unfoldable pub table_text : List ℕ → Answer
+abbrev pub table_text : List ℕ → Answer
 table_text [] = fail
 table_text (b ∷ s) = sent (b ∷ s)
 
 -- the commands that answer with a word of four bytes, or with no data, by the numbers that they tell
-unfoldable pub short_by : ℕ → ℕ → ℕ → ℕ → ℕ → Short
+abbrev pub short_by : ℕ → ℕ → ℕ → ℕ → ℕ → Short
 short_by c base burn run block =
     cond (c == 0x08) (Word base)
     (cond (c == 0x09) Empty
@@ -53,7 +51,7 @@ short_by c base burn run block =
     (cond (c == 0x15) (Word run)
     (cond (c == 0x19) Empty Other)))))))
 
-unfoldable pub short_of : ℕ → Engine → Short
+abbrev pub short_of : ℕ → Engine → Short
 short_of c e = short_by c e.base e.up.burn e.up.run (block_size_of e.store)
 
 -- those that answer with more, by what they tell of the device; all other numbers are not known
@@ -93,17 +91,17 @@ asking base burn run store =
 -- ---- READ and WRITE of scratch
 
 -- the first eight payload bytes give address and length, or the command is refused
-unfoldable pub pair_of : List ℕ → Pair
-pair_of data' = cond (nat_le 8 (length data')) (Both (word_at 4 data' 0) (word_at 4 data' 4)) Cut
+abbrev pub pair_of : List ℕ → Option (ℕ × ℕ)
+pair_of data' = cond (nat_le 8 (length data')) (Some (word_at 4 data' 0, word_at 4 data' 4)) None
 
 -- the window from addr on lies inside scratch; at scratch's end it may be empty
-unfoldable pub inside : ℕ → ℕ → ℕ → ℕ → Bool
+abbrev pub inside : ℕ → ℕ → ℕ → ℕ → Bool
 inside base size addr len = nat_le base addr && nat_le (addr + len) (base + size)
 
 -- READ: over 4,112 bytes OK with no data; 4,097 to 4,112 the odd reply
-abbrev pub read_by : ℕ → List ℕ → Pair → Answer
-read_by base scratch Cut = fail
-read_by base scratch (Both addr len) =
+abbrev pub read_by : ℕ → List ℕ → Option (ℕ × ℕ) → Answer
+read_by base scratch None = fail
+read_by base scratch (Some (addr, len)) =
     cond (inside base (length scratch) addr len) (cond (nat_le len 4112) (sent (take len (drop (addr - base) scratch))) (ok [])) fail
 
 unfoldable pub read_of : ℕ → List ℕ → List ℕ → Answer
@@ -117,9 +115,9 @@ pub record Wrote : Type 0 where
 abbrev pub wrote : Answer → List ℕ → Wrote
 wrote a x = record { answer = a; scratch = x }
 
-abbrev pub write_by : ℕ → List ℕ → List ℕ → Pair → Wrote
-write_by base scratch data' Cut = wrote fail scratch
-write_by base scratch data' (Both addr len) =
+abbrev pub write_by : ℕ → List ℕ → List ℕ → Option (ℕ × ℕ) → Wrote
+write_by base scratch data' None = wrote fail scratch
+write_by base scratch data' (Some (addr, len)) =
     cond (nat_le len (length data' - 8) && inside base (length scratch) addr len)
     (wrote (ok []) (sets scratch (addr - base) (take len (drop 8 data'))))
     (wrote fail scratch)
@@ -129,10 +127,10 @@ write_of base scratch data' = write_by base scratch data' (pair_of data')
 
 -- the same as the code goes: how WRITE ended, and scratch
 pub record WroteTo : Type 0 where
-  pub ended : Ended
+  pub ended : Result ℕ Failure
   pub scratch : List ℕ
 
-abbrev pub wrote_as : Ended → List ℕ → WroteTo
+abbrev pub wrote_as : Result ℕ Failure → List ℕ → WroteTo
 wrote_as x s = record { ended = x; scratch = s }
 
 abbrev pub wrote_by : Wrote → WroteTo

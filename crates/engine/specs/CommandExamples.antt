@@ -6,7 +6,7 @@ use Rattle.wire.specs.Bytes.{bytes_of, le, word_at}
 use Rattle.storage.specs.Open.{one_of}
 use Rattle.wire.specs.Header.{checksum_of, header_of}
 use Rattle.engine.specs.Reply.{ok, fail, unsupported, odd, sent, status_by, reply_by}
-use Rattle.engine.specs.Command.{is_query, hwinfo, table_text, pair_of, inside, read_of, wrote, write_of}
+use Rattle.engine.specs.Command.{is_query, hwinfo, table_text, read_of, wrote, write_of}
 
 -- ---- replies
 
@@ -31,7 +31,7 @@ pub edges :
     × (sent (replicate 4097 7) ≡ odd)
     × (table_text [] ≡ fail)
     × (table_text (ascii "mtd") ≡ ok (ascii "mtd"))
-unfolding sent table_text
+unfolding sent
 edges = (refl, refl, refl, refl)
 
 -- ---- the hardware record of boot stage 2: its length, and what stands at 0, 8, 40 and 72
@@ -47,7 +47,7 @@ hardware = (refl, refl, refl, refl, refl)
 
 -- READ only looks, WRITE does not; neither does a number that is no command
 pub looks : (is_query 0x03 ≡ true) × (is_query 0x02 ≡ false) × (is_query 0x1A ≡ true) × (is_query 0xFF ≡ false)
-unfolding one_of is_query
+unfolding one_of
 looks = (refl, refl, refl, refl)
 
 -- ---- scratch 1 2 3 4 at 0x40
@@ -59,14 +59,14 @@ pub reads :
     × (read_of 0x40 (1 ∷ 2 ∷ 3 ∷ 4 ∷ []) (0x44 ∷ 0 ∷ 0 ∷ 0 ∷ 0 ∷ 0 ∷ 0 ∷ 0 ∷ []) ≡ ok [])
     × (read_of 0x40 (1 ∷ 2 ∷ 3 ∷ 4 ∷ []) (0x43 ∷ 0 ∷ 0 ∷ 0 ∷ 2 ∷ 0 ∷ 0 ∷ 0 ∷ []) ≡ fail)
     × (read_of 0x40 (1 ∷ 2 ∷ 3 ∷ 4 ∷ []) (0x3F ∷ 0 ∷ 0 ∷ 0 ∷ 1 ∷ 0 ∷ 0 ∷ 0 ∷ []) ≡ fail)
-unfolding le word_at sent pair_of inside read_of
+unfolding le word_at sent read_of
 reads = (refl, refl, refl, refl, refl)
 
 -- 4,112 bytes are too many for a reply and give the odd one; 4,113 give OK with no data
 pub reads_long :
     (read_of 0 (replicate 4113 7) (bytes_of 4 0 ++ bytes_of 4 4112) ≡ odd)
     × (read_of 0 (replicate 4113 7) (bytes_of 4 0 ++ bytes_of 4 4113) ≡ ok [])
-unfolding bytes_of le word_at sent pair_of inside read_of
+unfolding bytes_of le word_at sent read_of
 reads_long = (refl, refl)
 
 -- a byte behind those that the pair counts is not laid; a byte missing refuses the command, and so does one past the end
@@ -74,5 +74,5 @@ pub writes :
     (write_of 0x40 (1 ∷ 2 ∷ 3 ∷ 4 ∷ []) (0x41 ∷ 0 ∷ 0 ∷ 0 ∷ 2 ∷ 0 ∷ 0 ∷ 0 ∷ 8 ∷ 9 ∷ 10 ∷ []) ≡ wrote (ok []) (1 ∷ 8 ∷ 9 ∷ 4 ∷ []))
     × (write_of 0x40 (1 ∷ 2 ∷ 3 ∷ 4 ∷ []) (0x41 ∷ 0 ∷ 0 ∷ 0 ∷ 2 ∷ 0 ∷ 0 ∷ 0 ∷ 8 ∷ []) ≡ wrote fail (1 ∷ 2 ∷ 3 ∷ 4 ∷ []))
     × (write_of 0x40 (1 ∷ 2 ∷ 3 ∷ 4 ∷ []) (0x43 ∷ 0 ∷ 0 ∷ 0 ∷ 2 ∷ 0 ∷ 0 ∷ 0 ∷ 8 ∷ 9 ∷ []) ≡ wrote fail (1 ∷ 2 ∷ 3 ∷ 4 ∷ []))
-unfolding le word_at pair_of inside write_of
+unfolding le word_at write_of
 writes = (refl, refl, refl)

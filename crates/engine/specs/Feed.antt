@@ -1,10 +1,9 @@
 -- A write's bytes, cut where the engine's state changes kind; each piece is one turn (protocol.rs `transport_write`).
-use Rattle.std.specs.Prelude.{◌≡◌, ℕ, zero, suc, ◌+◌, ◌-◌, ◌<◌, ◌≤◌, min, cond, List, [], ◌∷◌, length, take, drop, ◌==◌, ◌≢◌}
+use Rattle.std.specs.Prelude.{◌≡◌, ℕ, zero, suc, ◌-◌, ◌<◌, ◌≤◌, cond, List, [], ◌∷◌, length, take, drop, ◌==◌, ◌≢◌}
 use Rattle.engine.specs.declared.types.Engine.{Engine}
 use Rattle.engine.specs.declared.types.Frame.{Frame}
 use Rattle.engine.specs.declared.types.Said.{Said}
-use Rattle.engine.specs.declared.types.Moved.{Moved}
-use Rattle.engine.specs.World.{Given, World, world, Out, out_of}
+use Rattle.engine.specs.World.{Given, World, Out, out_of}
 use Rattle.engine.specs.Frame.{gathers}
 use Rattle.engine.specs.Stream.{UpFit, streams}
 
@@ -31,7 +30,7 @@ pub record Fit (w : World) : Type 0 where
 -- ---- a turn
 
 -- how many bytes the engine takes before its state changes kind: the stream's, else the header's, else the frame's
-unfoldable pub want_by : ℕ → Frame → ℕ
+abbrev pub want_by : ℕ → Frame → ℕ
 want_by left f = cond (left == 0) (cond (f.total == 0) (16 - f.len) (f.total - f.len)) left
 
 abbrev pub want_of : Engine → ℕ
@@ -39,20 +38,6 @@ want_of e = want_by e.up.left e.frame
 
 unfoldable pub turns : Given → List ℕ → World → Out
 turns g p w = cond (w.e.up.left == 0) (gathers g p w) (streams g.lent p w)
-
--- a turn at a place of the bytes, and the next place
-pub record Step : Type 0 where
-  pub out : Out
-  pub off : ℕ
-
-abbrev pub stepped : Moved → List ℕ → List ℕ → List ℕ → List ℕ → List ℕ → Step
-stepped r q p c b x = record { out = out_of r.status (world r.e q p c b x); off = r.off }
-
-abbrev pub step_by : Given → List ℕ → ℕ → ℕ → World → Step
-step_by g d off k w = record { out = turns g (take k (drop off d)) w; off = off + k }
-
-unfoldable pub steps : Given → List ℕ → ℕ → World → Step
-steps g d off w = step_by g d off (min (want_of w.e) (length d - off)) w
 
 -- ---- turn after turn
 

@@ -1,10 +1,9 @@
 -- Gathering a frame: what its header asks for, and what happens once its bytes are there (01, 'Frame rules', rows 1a and 1b;
 -- protocol.rs `transport_write`).
-use Rattle.std.specs.Prelude.{ℕ, ◌+◌, ◌%◌, ◌^◌, cond, List, length, ◌==◌, nat_le, nat_lt}
+use Rattle.std.specs.Prelude.{ℕ, ◌+◌, ◌%◌, ◌^◌, cond, List, length, ◌==◌, nat_le, nat_lt, Option, None, Some}
 use Rattle.std.proofs.lemmas.List.Edits.{sets}
 use Rattle.wire.specs.Header.{parsed}
 use Rattle.wire.specs.declared.header.Header.{Header}
-use Rattle.wire.specs.declared.header.Header.TheVariants as header
 use Rattle.engine.specs.declared.frame.Next.{Next}
 use Rattle.engine.specs.declared.frame.Next.TheVariants.{Refused, Send, Total}
 use Rattle.engine.specs.World.{Given, World, world, with_frame, emptied, at_e, Out, out_of}
@@ -14,12 +13,12 @@ use Rattle.engine.specs.Stream.{begins}
 -- ---- the header
 
 -- what an accepted header asks for: SEND_FWC_DATA with the length in its four bytes, or a frame of at most 8,208 bytes. All others are
--- refused: 1a where `parsed` is Bad, 1b where the frame is too long
-abbrev pub next_by : Header → Next
-next_by header.Bad = Refused
-next_by (header.Request c s n) = cond (c == 0x12) (Send (n % 2 ^ 32)) (cond (nat_le n 8192) (Total (16 + n)) Refused)
+-- refused: 1a where `parsed` is None, 1b where the frame is too long
+abbrev pub next_by : Option Header → Next
+next_by None = Refused
+next_by (Some h) = cond (h.command == 0x12) (Send (h.length % 2 ^ 32)) (cond (nat_le h.length 8192) (Total (16 + h.length)) Refused)
 
-unfoldable pub next_of : List ℕ → Next
+abbrev pub next_of : List ℕ → Next
 next_of request = next_by (parsed request)
 
 -- a refused header, 1a or 1b: the request is emptied and all else kept

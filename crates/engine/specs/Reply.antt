@@ -1,13 +1,12 @@
 -- Replies (01, 'Replies and refusals', 'Frame rules'; protocol.rs `begin_response`, `finish_response`, `fail_response`,
 -- `unsupported_response`): a header, and behind it the data.
-use Rattle.std.specs.Prelude.{ℕ, ◌+◌, Bool, true, false, cond, List, [], ◌++◌, length, replicate, nat_le}
+use Rattle.std.specs.Prelude.{ℕ, ◌+◌, Bool, true, false, cond, List, [], ◌++◌, length, replicate, nat_le, Result, Ok, Err}
 use Rattle.std.proofs.lemmas.List.Edits.{sets}
 use Rattle.wire.specs.Bytes.{laid}
 use Rattle.wire.specs.Header.{reply_magic, header_of}
-use Rattle.engine.specs.declared.types.Ended.{Ended}
-use Rattle.engine.specs.declared.types.Ended.TheVariants.{Ok, Fail, Unsupported, Odd}
-use Rattle.engine.specs.declared.types.Left.{Left}
-use Rattle.engine.specs.World.{World, world, with_said, at_e, at_reply, Out, out_of}
+use Rattle.engine.specs.declared.types.Failure.{Failure}
+use Rattle.engine.specs.declared.types.Failure.TheVariants.{Failed, Unsupported, Odd}
+use Rattle.engine.specs.World.{World, with_said, at_e, at_reply, Out, out_of}
 
 -- what a command answers: data, a fail reply, that it is not known, or more data than a reply takes (1e)
 pub data Answer : Type 0 where
@@ -58,11 +57,11 @@ ran a w = record { answer = a; w = w }
 
 -- ---- the same as the code goes: a command lays its data behind the header's place and says how it ended; then the header is laid
 
-abbrev pub ended_by : Answer → Ended
+abbrev pub ended_by : Answer → Result ℕ Failure
 ended_by (ok bytes) = Ok (length bytes)
-ended_by fail = Fail
-ended_by unsupported = Unsupported
-ended_by odd = Odd
+ended_by fail = Err Failed
+ended_by unsupported = Err Unsupported
+ended_by odd = Err Odd
 
 abbrev pub placed : Answer → List ℕ → List ℕ
 placed (ok bytes) reply = laid reply 16 bytes
@@ -72,10 +71,10 @@ placed odd reply = reply
 
 -- how a command ended, and the reply room
 pub record Placed : Type 0 where
-  pub ended : Ended
+  pub ended : Result ℕ Failure
   pub reply : List ℕ
 
-abbrev pub place : Ended → List ℕ → Placed
+abbrev pub place : Result ℕ Failure → List ℕ → Placed
 place x reply = record { ended = x; reply = reply }
 
 abbrev pub placing : Answer → List ℕ → Placed
@@ -83,34 +82,34 @@ placing a reply = place (ended_by a) (placed a reply)
 
 -- how a command ended, and the world
 pub record Gone : Type 0 where
-  pub ended : Ended
+  pub ended : Result ℕ Failure
   pub w : World
 
-abbrev pub gone : Left → List ℕ → List ℕ → List ℕ → List ℕ → List ℕ → Gone
-gone r q p c b x = record { ended = r.ended; w = world r.e q p c b x }
+abbrev pub gone : Result ℕ Failure → World → Gone
+gone x w = record { ended = x; w = w }
 
 abbrev pub going : Ran → Gone
-going r = record { ended = ended_by r.answer; w = at_reply (placed r.answer r.w.reply) r.w }
+going r = gone (ended_by r.answer) (at_reply (placed r.answer r.w.reply) r.w)
 
 -- the status, the header and the length of a reply by how the command ended
-unfoldable pub status_is : Ended → ℕ
+abbrev pub status_is : Result ℕ Failure → ℕ
 status_is (Ok n) = 0
-status_is Fail = 1
-status_is Unsupported = 0
-status_is Odd = 1
+status_is (Err Failed) = 1
+status_is (Err Unsupported) = 0
+status_is (Err Odd) = 1
 
-unfoldable pub header_is : ℕ → Ended → List ℕ
+abbrev pub header_is : ℕ → Result ℕ Failure → List ℕ
 header_is command (Ok n) = header_of reply_magic command 0 n
-header_is command Fail = header_of reply_magic command 1 0
-header_is command Unsupported = header_of reply_magic command 1 108
-header_is command Odd = header_of 0 1 0 0
+header_is command (Err Failed) = header_of reply_magic command 1 0
+header_is command (Err Unsupported) = header_of reply_magic command 1 108
+header_is command (Err Odd) = header_of 0 1 0 0
 
-unfoldable pub length_is : Ended → ℕ
+abbrev pub length_is : Result ℕ Failure → ℕ
 length_is (Ok n) = 16 + n
-length_is Fail = 16
-length_is Unsupported = 124
-length_is Odd = 16
+length_is (Err Failed) = 16
+length_is (Err Unsupported) = 124
+length_is (Err Odd) = 16
 
-unfoldable pub ends_by : ℕ → Ended → World → Out
+abbrev pub ends_by : ℕ → Result ℕ Failure → World → Out
 ends_by command x w =
     out_of (status_is x) (at_e (with_said (record { len = length_is x; pos = 0 }) w.e) (at_reply (laid w.reply 0 (header_is command x)) w))

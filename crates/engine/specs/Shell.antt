@@ -1,38 +1,28 @@
 -- The storage shell on values (01, 'Shell'; shell.rs, and `shell_line` of protocol.rs): the line of a payload, what a line asks
 -- for, the part of scratch that an address and a length name, and the device table of `get_bootdevice`.
-use Rattle.std.specs.Prelude.{ℕ, ◌+◌, ◌-◌, ◌%◌, ◌^◌, min, Bool, false, cond, ◌&&◌, ◌||◌, List, [], ◌∷◌, length, take, drop, replicate, nat_le, nat_lt}
+use Rattle.std.specs.Prelude.{ℕ, ◌+◌, ◌-◌, ◌%◌, ◌^◌, min, Bool, false, cond, ◌&&◌, ◌||◌, List, [], ◌∷◌, length, take, drop, replicate, nat_le, nat_lt, Option, None, Some}
 use Rattle.text.specs.Utf8.{any_of, is_utf8}
-use Rattle.text.specs.Token.{until, place_after, tokens_of, ascii, starts_with, same}
+use Rattle.text.specs.Token.{tokens_of, rest_of, ascii, starts_with, same}
 use Rattle.text.specs.Number.{number_in}
-use Rattle.text.specs.declared.number.Number.{Number}
-use Rattle.text.specs.declared.number.Number.TheVariants as number
-use Rattle.text.specs.declared.token.Place.{Place}
-use Rattle.text.specs.declared.token.Place.TheVariants as place
 use Rattle.wire.specs.Bytes.{bytes_of, word_at, laid}
 use Rattle.engine.specs.declared.shell.Line.{Line}
 use Rattle.engine.specs.declared.shell.Line.TheVariants as line
-use Rattle.engine.specs.declared.shell.Next.{Next}
-use Rattle.engine.specs.declared.shell.Next.TheVariants as next
-use Rattle.engine.specs.declared.shell.Text.{Text}
-use Rattle.engine.specs.declared.shell.Text.TheVariants as text
-use Rattle.engine.specs.declared.shell.Three.{Three}
-use Rattle.engine.specs.declared.shell.Three.TheVariants as three
+use Rattle.engine.specs.declared.shell.Tokens.{Tokens}
 use Rattle.engine.specs.declared.shell.Window.{Window}
-use Rattle.engine.specs.declared.shell.Window.TheVariants as window
 use Rattle.engine.specs.declared.shell.Word.{Word}
 use Rattle.engine.specs.declared.shell.Word.TheVariants as word
 
 -- ---- the line of a payload
 
 -- a u32 length and that many UTF-8 bytes; what lies behind them is not looked at
-unfoldable pub text_of : List ℕ → Text
+abbrev pub text_of : List ℕ → Option ℕ
 text_of s =
     cond (nat_le 4 (length s) && (nat_le (4 + word_at 4 s 0) (length s) && is_utf8 (take (word_at 4 s 0) (drop 4 s))))
-    (text.Len (word_at 4 s 0))
-    text.Bad
+    (Some (word_at 4 s 0))
+    None
 
 -- a line that changes flash, by its first bytes
-unfoldable pub is_write : List ℕ → Bool
+abbrev pub is_write : List ℕ → Bool
 is_write s = starts_with s (ascii "bderase") || starts_with s (ascii "bdwrite")
 
 -- a line whose first token is `reset`
@@ -50,86 +40,80 @@ unfoldable pub done_words : List (List ℕ)
 done_words = ascii "bdopen" ∷ ascii "bdclose" ∷ ascii "bdcfg" ∷ ascii "efuse" ∷ ascii "aicupg" ∷ ascii "reset" ∷ []
 
 -- the command words
-unfoldable pub word_of : List ℕ → Word
+unfoldable pub word_of : List ℕ → Option Word
 word_of t =
-    cond (any_of (same t) done_words) word.Done
-    (cond (same t (ascii "bderase")) word.Erase
-    (cond (same t (ascii "bdwrite")) word.Write
-    (cond (same t (ascii "bdread")) word.Read
-    (cond (same t (ascii "get_bootdevice")) word.Boot
-    word.Other))))
+    cond (any_of (same t) done_words) (Some word.Done)
+    (cond (same t (ascii "bderase")) (Some word.Erase)
+    (cond (same t (ascii "bdwrite")) (Some word.Write)
+    (cond (same t (ascii "bdread")) (Some word.Read)
+    (cond (same t (ascii "get_bootdevice")) (Some word.Boot)
+    None))))
 
--- the next token is a number, and with it and the tokens behind it the rest goes on; Bad where the token is missing or says none
-abbrev pub on_number : (ℕ → Line) → Number → Line
-on_number f (number.Value n) = f n
-on_number f number.Bad = line.Bad
+-- the next token is a number, and with it and the tokens behind it the rest goes on; None where the token is missing or says none
+abbrev pub on_number : {A : Type 0} → (ℕ → Option A) → Option ℕ → Option A
+on_number f (Some n) = f n
+on_number f None = None
 
-unfoldable pub with_number : (ℕ → List (List ℕ) → Line) → List (List ℕ) → Line
-with_number f [] = line.Bad
+abbrev pub with_number : {A : Type 0} → (ℕ → List (List ℕ) → Option A) → List (List ℕ) → Option A
+with_number f [] = None
 with_number f (t ∷ ts) = on_number (λ n. f n ts) (number_in t)
 
--- the next token is an id, which may be any; Bad where it is missing
-unfoldable pub with_id : (List (List ℕ) → Line) → List (List ℕ) → Line
-with_id f [] = line.Bad
+-- the next token is an id, which may be any; None where it is missing
+abbrev pub with_id : (List (List ℕ) → Option Line) → List (List ℕ) → Option Line
+with_id f [] = None
 with_id f (t ∷ ts) = f ts
 
 -- the numbers of each command
-abbrev pub erase_of : List (List ℕ) → Line
-erase_of = with_number (λ start. with_number (λ size ts. line.Erase start size))
+abbrev pub erase_of : List (List ℕ) → Option Line
+erase_of = with_number (λ start. with_number (λ size ts. Some (line.Erase start size)))
 
-abbrev pub write_of : List (List ℕ) → Line
-write_of = with_number (λ offset. with_number (λ len. with_number (λ addr ts. line.Write offset len addr)))
+abbrev pub write_of : List (List ℕ) → Option Line
+write_of = with_number (λ offset. with_number (λ len. with_number (λ addr ts. Some (line.Write offset len addr))))
 
-abbrev pub read_of : List (List ℕ) → Line
-read_of = with_number (λ offset. with_number (λ len. with_number (λ addr ts. line.Read offset len addr)))
+abbrev pub read_of : List (List ℕ) → Option Line
+read_of = with_number (λ offset. with_number (λ len. with_number (λ addr ts. Some (line.Read offset len addr))))
 
-abbrev pub boot_of : List (List ℕ) → Line
-boot_of = with_number (λ addr. with_number (λ len ts. line.Boot addr len))
+abbrev pub boot_of : List (List ℕ) → Option Line
+boot_of = with_number (λ addr. with_number (λ len ts. Some (line.Boot addr len)))
 
 -- a command word with the tokens behind it
-abbrev pub asked : Word → List (List ℕ) → Line
-asked word.Other ts = line.Bad
-asked word.Done ts = line.Done
-asked word.Erase ts = with_id erase_of ts
-asked word.Write ts = with_id write_of ts
-asked word.Read ts = with_id read_of ts
-asked word.Boot ts = boot_of ts
+abbrev pub asked : Option Word → List (List ℕ) → Option Line
+asked None ts = None
+asked (Some word.Done) ts = Some line.Done
+asked (Some word.Erase) ts = with_id erase_of ts
+asked (Some word.Write) ts = with_id write_of ts
+asked (Some word.Read) ts = with_id read_of ts
+asked (Some word.Boot) ts = boot_of ts
 
--- the first token is the command word
-abbrev pub command : List (List ℕ) → Line
-command [] = line.Bad
+-- the first token is the command word; None where a line asks for nothing that is known
+abbrev pub command : List (List ℕ) → Option Line
+command [] = None
 command (t ∷ ts) = asked (word_of t) ts
 
-unfoldable pub line_of : List ℕ → Line
+unfoldable pub line_of : List ℕ → Option Line
 line_of s = command (tokens_of s)
 
 -- ---- the same by places, as the code goes
 
--- the number at a place, with the next place
-abbrev pub next_by : Place → Number → Next
-next_by p (number.Value n) = next.Number n p
-next_by p number.Bad = next.Bad
+-- the tokens that are left
+abbrev pub tokens_left : Tokens → List (List ℕ)
+tokens_left t = rest_of t.line.now t.place
 
-unfoldable pub next_at : List ℕ → Place → Next
-next_at s place.Done = next.Bad
-next_at s (place.At p) = next_by (place_after s p) (number_in (until 0x20 (drop p s)))
+-- those behind the next
+abbrev pub behind : List (List ℕ) → List (List ℕ)
+behind [] = []
+behind (t ∷ ts) = ts
 
--- the place behind the id
-unfoldable pub id_past : List ℕ → Place → Place
-id_past s place.Done = place.Done
-id_past s (place.At p) = place_after s p
-
--- what is made of three numbers
-abbrev pub on_three : (ℕ → ℕ → ℕ → Line) → Three → Line
-on_three f (three.All a b c) = f a b c
-on_three f three.Bad = line.Bad
+-- three numbers
+abbrev pub three_of : List (List ℕ) → Option (ℕ × ℕ × ℕ)
+three_of = with_number (λ a. with_number (λ b. with_number (λ c ts. Some (a, b, c))))
 
 -- ---- the part of scratch that an address and a length name
 
 -- refused below scratch's base and from its end on; the length is cut to that end
-unfoldable pub window_of : ℕ → ℕ → ℕ → ℕ → Window
+abbrev pub window_of : ℕ → ℕ → ℕ → ℕ → Option Window
 window_of base size addr len =
-    cond (nat_le base addr && nat_lt addr (base + size)) (window.At (addr - base) (min len (base + size - addr))) window.Out
+    cond (nat_le base addr && nat_lt addr (base + size)) (Some (record { place = addr - base; len = min len (base + size - addr) })) None
 
 -- ---- the device table
 

@@ -1,19 +1,16 @@
 -- The commands over the storage: SET_UPG_END, SET_FWC_META, GET_FWC_CRC, READ_FWC_DATA, ERASE_STORAGE, each in the order of
 -- `execute_inner` (01, 'Frame rules').
-use Rattle.std.specs.Prelude.{ℕ, ◌-◌, min, Bool, true, false, cond, List, [], ◌∷◌, length, take, drop, replicate, ◌==◌, nat_le}
+use Rattle.std.specs.Prelude.{ℕ, ◌-◌, min, Bool, true, false, cond, List, [], ◌∷◌, length, take, drop, replicate, ◌==◌, nat_le, Option, None, Some, Result, Ok, Err}
 use Rattle.text.specs.Utf8.{is_utf8}
 use Rattle.text.specs.Token.{ascii, until, same}
 use Rattle.wire.specs.Bytes.{bytes_of, word_at}
 use Rattle.storage.specs.World.{Lent, Told, Seen}
 use Rattle.storage.specs.Store.{flushing, erasing, reading}
 use Rattle.storage.specs.Partition.{Lists, lookup}
-use Rattle.storage.specs.declared.partition.Found.{Found}
-use Rattle.storage.specs.declared.partition.Found.TheVariants as found
+use Rattle.storage.specs.declared.types.CallError.{CallError}
 use Rattle.engine.specs.declared.types.Update.{Update}
-use Rattle.engine.specs.declared.storing.Target.{Target}
-use Rattle.engine.specs.declared.storing.Target.TheVariants.{None, At, Unknown}
-use Rattle.engine.specs.declared.command.Pair.{Pair}
-use Rattle.engine.specs.declared.command.Pair.TheVariants.{Cut, Both}
+use Rattle.engine.specs.declared.types.Failure.{Failure}
+use Rattle.engine.specs.declared.types.Failure.TheVariants.{Failed}
 use Rattle.engine.specs.World.{World, with_up, at_e, dev_of, at_dev}
 use Rattle.engine.specs.Reply.{Answer, ok, fail, whether, Ran, ran}
 use Rattle.engine.specs.Command.{pair_of}
@@ -37,9 +34,9 @@ crc_query l w = after_flush w (λ v. ran (ok (bytes_of 4 v.e.up.crc)) (probed l 
 abbrev pub seen_by : World → Seen → Ran
 seen_by w s = ran (ok (take s.told.count s.room)) (at_dev s.told.dev w)
 
-abbrev pub read_fwc_by : Lent → World → Pair → Ran
-read_fwc_by l w Cut = ran fail w
-read_fwc_by l w (Both off len) = seen_by w (reading l off (replicate (min len 512) 0) (dev_of w))
+abbrev pub read_fwc_by : Lent → World → Option (ℕ × ℕ) → Ran
+read_fwc_by l w None = ran fail w
+read_fwc_by l w (Some (off, len)) = seen_by w (reading l off (replicate (min len 512) 0) (dev_of w))
 
 unfoldable pub read_fwc : Lent → List ℕ → World → Ran
 read_fwc l bytes w = read_fwc_by l w (pair_of bytes)
@@ -60,17 +57,17 @@ erase_storage l bytes w =
 unfoldable pub partition_field : List ℕ → List ℕ
 partition_field meta = let f = until 0 (take 64 (drop 0x48 meta)) in cond (is_utf8 f) f []
 
--- the target: none for an empty field, else the partition of that name
-abbrev pub found_at : Found → Target
-found_at (found.At o) = At o
-found_at found.Nothing = Unknown
-found_at found.Refused = Unknown
+-- the target: none for an empty field, else the partition of that name, which fails where it is not known
+abbrev pub found_at : Result (Option ℕ) CallError → Result (Option ℕ) Failure
+found_at (Ok (Some o)) = Ok (Some o)
+found_at (Ok None) = Err Failed
+found_at (Err e) = Err Failed
 
-abbrev pub target_by : Lists → List ℕ → Target
-target_by lists [] = None
+abbrev pub target_by : Lists → List ℕ → Result (Option ℕ) Failure
+target_by lists [] = Ok None
 target_by lists (b ∷ name) = found_at (lookup lists (b ∷ name))
 
-unfoldable pub target_of : Lists → List ℕ → Target
+unfoldable pub target_of : Lists → List ℕ → Result (Option ℕ) Failure
 target_of lists meta = target_by lists (partition_field meta)
 
 -- the metadata are stored and valid, with a target or without, and counts and results start anew
@@ -94,22 +91,21 @@ stored meta u =
     }
 
 -- an unknown partition fails, and the OLD target, counts and results stay
-abbrev pub aimed_at : List ℕ → Update → Target → Update
-aimed_at meta u None = anew meta false 0 u
-aimed_at meta u (At o) = anew meta true o u
-aimed_at meta u Unknown = stored meta u
+abbrev pub aimed_at : List ℕ → Update → Result (Option ℕ) Failure → Update
+aimed_at meta u (Ok None) = anew meta false 0 u
+aimed_at meta u (Ok (Some o)) = anew meta true o u
+aimed_at meta u (Err e) = stored meta u
 
-abbrev pub answer_to : Target → Answer
-answer_to None = ok []
-answer_to (At o) = ok []
-answer_to Unknown = fail
+abbrev pub answer_to : Result (Option ℕ) Failure → Answer
+answer_to (Ok t) = ok []
+answer_to (Err e) = fail
 
 unfoldable pub aims : Lists → List ℕ → World → Ran
 aims lists meta w =
     ran (answer_to (target_of lists meta)) (at_e (with_up (aimed_at meta w.e.up (target_of lists meta)) w.e) w)
 
 -- 512 bytes at least, of which the last 512 count; `META`; a flush; then the target
-unfoldable pub is_meta : List ℕ → Bool
+abbrev pub is_meta : List ℕ → Bool
 is_meta meta = same (take 4 meta) (ascii "META")
 
 unfoldable pub set_meta : Lent → Lists → List ℕ → World → Ran

@@ -15,7 +15,7 @@ abbrev pub UpFit : Update → Type 0
 UpFit u = (u.written + u.left < 2 ^ 32) × (u.target ≤ 2 ^ 31)
 
 -- a short storage write sets burn to 1
-unfoldable pub burn_by : ℕ → ℕ → ℕ → ℕ
+abbrev pub burn_by : ℕ → ℕ → ℕ → ℕ
 burn_by old count n = cond (count == n) old (cond (old == 0) 1 old)
 
 -- a piece of which count bytes were stored: all of it is counted, and goes into the checksum

@@ -1,5 +1,5 @@
 -- The whole state that a call of the engine sees, and what it leaves.
-use Rattle.std.specs.Prelude.{ℕ, Bool, List}
+use Rattle.std.specs.Prelude.{◌≡◌, ℕ, Bool, List}
 use Rattle.storage.specs.World.{Lent, Dev, dev}
 use Rattle.storage.specs.Partition.{Lists}
 use Rattle.storage.specs.declared.types.Store.{Store}
@@ -7,7 +7,7 @@ use Rattle.engine.specs.declared.types.Engine.{Engine}
 use Rattle.engine.specs.declared.types.Frame.{Frame}
 use Rattle.engine.specs.declared.types.Said.{Said}
 use Rattle.engine.specs.declared.types.Update.{Update}
-use Rattle.engine.specs.declared.types.Did.{Did}
+use Rattle.engine.specs.declared.rooms.Rooms.{Rooms}
 
 -- what is lent and never changed: the failing chip calls and the marks, the partition lists, the table text
 pub record Given : Type 0 where
@@ -38,9 +38,21 @@ pub record Out : Type 0 where
 abbrev pub out_of : ℕ → World → Out
 out_of status w = record { status = status; w = w }
 
--- what a function of the code leaves, with the rooms that it was lent
-abbrev pub out : Did → List ℕ → List ℕ → List ℕ → List ℕ → List ℕ → Out
-out r q p c b x = out_of r.status (world r.e q p c b x)
+-- ---- the same as the code has it: the record, the request room, and the other rooms as one struct
+
+abbrev pub world_of : Engine → List ℕ → Rooms → World
+world_of e q r = world e q r.reply.now r.chip.now r.buffer.now r.scratch.now
+
+-- the storage of an engine with its rooms
+abbrev pub dev_in : Engine → Rooms → Dev
+dev_in e r = dev e.store r.chip.now r.buffer.now
+
+-- the same rooms are lent, whatever their bytes are
+pub record KeepsRooms (old new : Rooms) : Type 0 where
+  pub reply : new.reply.ghost_name ≡ old.reply.ghost_name
+  pub chip : new.chip.ghost_name ≡ old.chip.ghost_name
+  pub buffer : new.buffer.ghost_name ≡ old.buffer.ghost_name
+  pub scratch : new.scratch.ghost_name ≡ old.scratch.ghost_name
 
 -- ---- the record with one group changed
 
@@ -63,6 +75,12 @@ with_flags upgrading asked e =
 abbrev pub with_store : Store → Engine → Engine
 with_store s e =
     record { frame = e.frame; said = e.said; up = e.up; upgrading = e.upgrading; asked = e.asked; base = e.base; store = s }
+
+-- all but the storage and its rooms is as it was
+pub record KeepsRest (e f : Engine) (old new : Rooms) : Type 0 where
+  pub engine : f ≡ with_store f.store e
+  pub reply : new.reply.now ≡ old.reply.now
+  pub scratch : new.scratch.now ≡ old.scratch.now
 
 -- the request room emptied: its bytes stay, its length is 0
 abbrev pub emptied : Engine → Engine

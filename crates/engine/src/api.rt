@@ -1,68 +1,56 @@
 // The engine's public calls, from protocol.rs `new`, `transport_write`, `transport_read`, `reset`,
 // `host_upgrading` and `reset_requested`. No call asks anything of its caller: rooms of another size,
-// parts that an opening would refuse and a record out of bounds are refused with 9, and nothing is
-// changed.
-ghost use Rattle.std.specs.Prelude.{◌≡◌, ℕ, ◌+◌, ◌≤◌, min, ◌&&◌, List, length};
-ghost use Rattle.storage.specs.World.{lent};
-ghost use Rattle.storage.specs.Partition.{lists, lists_ok};
+// parts that an opening would refuse and a record out of bounds are refused, and nothing is changed.
+ghost use Rattle.std.specs.Prelude.{◌≡◌, ◌&&◌, length};
+ghost use Rattle.storage.specs.World.{status_in};
 ghost use Rattle.storage.specs.Open.{in_bounds, parts_fit, scratch_ok};
-ghost use Rattle.engine.specs.World.{given, world, with_said, out};
-ghost use Rattle.engine.specs.Api.{rooms_ok, frame_ok, said_ok, bounds_ok, fits, no_update, fresh, no_store, refused, opened_nor, opened_nand, writes, took, reads, cleared};
+ghost use Rattle.storage.specs.Partition.{lists_ok};
+ghost use Rattle.engine.specs.World.{KeepsRooms, world_of, out_of};
+ghost use Rattle.engine.specs.Api.{rooms_ok, frame_ok, said_ok, bounds_ok, fits, no_update, fresh, opening, opened_nor, opened_nand, writes, took, reads, cleared};
 
-use crate::feed::feed;
-use crate::types::{Did, Engine, Frame, Said, Update};
-use storage::open::{Opened, scratch_ok};
-use storage::partition::lists_ok;
-use storage::types::{Erased, Kind, Shape, Store};
-use wire::bytes::put;
+use crate::frame::REQ_MAX;
+use crate::given::Given;
+use crate::reply::RESP_MAX;
+use crate::rooms::Rooms;
+use crate::types::{Engine, Frame, Said, Update};
+use storage::lent::{Lent, Partitions};
+use storage::open::scratch_ok;
+use storage::types::{Board, CallError, Geometry, Refusal, Store};
 
-// ---- row 9
+// ---- in bounds
 
 // The request room has 8,208 bytes, the reply room 4,112.
 fn rooms_ok(request: usize, reply: usize) -> bool
     ensures { result ≡ rooms_ok request reply }
 {
-    if request != 8208 {
-        return false;
-    }
-    reply == 4112
+    request == REQ_MAX && reply == RESP_MAX
 }
 
-fn frame_ok(f: Frame) -> bool
-    ensures { result ≡ frame_ok f }
+fn frame_ok(frame: Frame) -> bool
+    ensures { result ≡ frame_ok frame }
 {
-    if f.total == 0 {
-        return f.len < 16;
+    if frame.total == 0 {
+        frame.len < 16
+    } else {
+        frame.len < frame.total && frame.total <= REQ_MAX
     }
-    if f.total <= f.len {
-        return false;
-    }
-    f.total <= 8208
 }
 
-fn said_ok(s: Said) -> bool
-    ensures { result ≡ said_ok s }
+fn said_ok(said: Said) -> bool
+    ensures { result ≡ said_ok said }
 {
-    if s.len < s.pos {
-        return false;
-    }
-    s.len <= 4112
+    said.pos <= said.len && said.len <= RESP_MAX
 }
 
-// The sum is tested before it is made.
+// The target is at most 2^31, and written and left are under 2^32 together: the sum is tested before it is
+// made.
 fn up_ok(target: u64, written: u64, left: u64) -> bool
     ensures { result ≡ bounds_ok target written left }
 {
-    if 2147483648 < target {
-        return false;
-    }
-    if 4294967295 < written {
-        return false;
-    }
-    left < 4294967296 - written
+    target <= 0x8000_0000 && written < 0x1_0000_0000 && left < 0x1_0000_0000 - written
 }
 
-// The rooms' lengths and the engine's own numbers.
+/// Are the rooms' lengths and the engine's own numbers as an opening and the calls since leave them.
 pub fn numbers_ok(
     request: usize,
     reply: usize,
@@ -74,97 +62,23 @@ pub fn numbers_ok(
 ) -> bool
     ensures { result ≡ (rooms_ok request reply && (frame_ok frame && (said_ok said && bounds_ok target written left))) }
 {
-    if !rooms_ok(request, reply) {
-        return false;
-    }
-    if !frame_ok(frame) {
-        return false;
-    }
-    if !said_ok(said) {
-        return false;
-    }
-    up_ok(target, written, left)
+    rooms_ok(request, reply) && frame_ok(frame) && said_ok(said) && up_ok(target, written, left)
 }
 
-// The parts that are lent with a store and scratch: would an opening have taken them.
-fn parts_ok(
-    e: Engine,
-    chip: usize,
-    marks: usize,
-    buffer: usize,
-    scratch: usize,
-    offsets: &[u64],
-    sizes: &[u64],
-    lens: &[u64],
-    names: &[u8],
-) -> bool
-    ensures { result ≡ ((in_bounds e.store && parts_fit e.store chip marks buffer) && (lists_ok (lists offsets.now sizes.now lens.now names.now) && scratch_ok e.base scratch)) }
+// How many blocks have a mark.
+fn marks_len(lent: &Lent<'_>) -> usize
+    ensures { result ≡ length lent.now.marks }
 {
-    if !storage::open::fits(e.store, chip, marks, buffer) {
-        return false;
-    }
-    if !lists_ok(offsets, sizes, lens, names) {
-        return false;
-    }
-    scratch_ok(e.base, scratch)
-}
-
-// Is all as an opening and the calls since leave it.
-pub fn all_ok(
-    e: Engine,
-    request: &[u8],
-    reply: &[u8],
-    chip: &[u8],
-    buffer: &[u8],
-    scratch: &[u8],
-    marks: &[u8],
-    offsets: &[u64],
-    sizes: &[u64],
-    lens: &[u64],
-    names: &[u8],
-) -> bool
-    ensures { (f t : List ℕ) → result ≡ fits (given (lent f marks.now) (lists offsets.now sizes.now lens.now names.now) t) (world e request.now reply.now chip.now buffer.now scratch.now) }
-{
-    let frame = e.frame;
-    let said = e.said;
-    if !numbers_ok(
-        request.len(),
-        reply.len(),
-        frame,
-        said,
-        e.up.target,
-        e.up.written,
-        e.up.left,
-    ) {
-        return false;
-    }
-    parts_ok(
-        e,
-        chip.len(),
-        marks.len(),
-        buffer.len(),
-        scratch.len(),
-        offsets,
-        sizes,
-        lens,
-        names,
-    )
+    lent.marks.len()
 }
 
 // ---- openings
-
-// What an opening leaves: 0 and an engine, or the number of the refusal and an engine that no later call takes.
-#[derive(Clone, Copy)]
-pub struct Opening {
-    pub number: u8,
-    pub e: Engine,
-}
 
 fn no_update() -> Update
     ensures { result ≡ no_update }
 {
     Update {
-        meta: [0u8; 512],
+        meta: [0; 512],
         valid: false,
         aimed: false,
         target: 0,
@@ -191,229 +105,144 @@ fn fresh(base: u32, store: Store) -> Engine
     }
 }
 
-// Of a refused opening. The capacity is out of bounds, so that every later call is refused with 9.
-fn no_store() -> Store
-    ensures { result ≡ no_store }
-{
-    Store {
-        shape: Shape {
-            kind: Kind::Nor,
-            page: 4096,
-            pages: 0,
-            blocks: 0,
-            capacity: 2147483649,
-            stage: 0,
-            device: 0,
-        },
-        held: false,
-        at: 0,
-        erased: Erased::None,
-        calls: 0,
+impl Engine {
+    /// Opens an engine over a NOR. Refused, in this order, for the rooms, the buffer, the chip's size, the
+    /// partitions or scratch. Every slice is left as it was.
+    // What an opening looks at, each as `&`: `Rooms` would lend it to be changed.
+    #[tactic(auto, unfolding(crate::specs::Api::opened_nor))]
+    pub fn open_nor(
+        request: &[u8],
+        reply: &[u8],
+        chip: &[u8],
+        buffer: &[u8],
+        scratch: &[u8],
+        partitions: &Partitions<'_>,
+        board: Board,
+    ) -> Result<Engine, Refusal>
+        ensures { opening result ≡ opened_nor (length request.now) (length reply.now) (length chip.now) (length buffer.now) partitions.now board.base (length scratch.now) board.stage board.device }
+    {
+        if !rooms_ok(request.len(), reply.len()) {
+            return Err(Refusal::Rooms);
+        }
+        let store = Store::open_nor(chip, buffer, scratch, partitions, board)?;
+        Ok(fresh(board.base, store))
     }
-}
 
-fn refused(number: u8) -> Opening
-    ensures { result ≡ refused number }
-{
-    Opening {
-        number,
-        e: fresh(0, no_store()),
+    /// Opens an engine over a NAND. Refused, in this order, for the rooms, the partitions, the geometry or
+    /// scratch. Every slice is left as it was.
+    #[tactic(auto, unfolding(crate::specs::Api::opened_nand))]
+    pub fn open_nand(
+        request: &[u8],
+        reply: &[u8],
+        chip: &[u8],
+        marks: &[u8],
+        geometry: Geometry,
+        scratch: &[u8],
+        partitions: &Partitions<'_>,
+        board: Board,
+    ) -> Result<Engine, Refusal>
+        ensures { opening result ≡ opened_nand (length request.now) (length reply.now) (length chip.now) geometry.page geometry.pages geometry.blocks (length marks.now) geometry.capacity partitions.now board.base (length scratch.now) board.stage board.device }
+    {
+        if !rooms_ok(request.len(), reply.len()) {
+            return Err(Refusal::Rooms);
+        }
+        let store = Store::open_nand(chip, marks, geometry, scratch, partitions, board)?;
+        Ok(fresh(board.base, store))
     }
-}
 
-// Opens an engine over a NOR: refusals 9 to 12 and 14, in that order. Every slice is left as it was.
-pub fn open_nor(
-    request: &[u8],
-    reply: &[u8],
-    chip: &[u8],
-    buffer: &[u8],
-    offsets: &[u64],
-    sizes: &[u64],
-    lens: &[u64],
-    names: &[u8],
-    base: u32,
-    scratch: &[u8],
-    stage: u8,
-    device: u32,
-) -> Opening
-    ensures { result ≡ opened_nor (length request.now) (length reply.now) (length chip.now) (length buffer.now) (lists offsets.now sizes.now lens.now names.now) base (length scratch.now) stage device }
-{
-    if !rooms_ok(request.len(), reply.len()) {
-        return refused(9);
+    // The parts that are lent with the store and scratch: would an opening have taken them.
+    fn parts_ok(&self, given: &Given<'_>, rooms: &Rooms<'_>) -> bool
+        ensures { result ≡ ((in_bounds self.now.store && parts_fit self.now.store (length rooms.now.chip.now) (length given.now.lent.marks) (length rooms.now.buffer.now)) && (lists_ok given.now.lists && scratch_ok self.now.base (length rooms.now.scratch.now))) }
+    {
+        self.store.fits(rooms.chip.len(), marks_len(&given.lent), rooms.buffer.len())
+            && given.partitions.fit()
+            && scratch_ok(self.base, rooms.scratch.len())
     }
-    match storage::open::open_nor(
-        chip, buffer, offsets, sizes, lens, names, base, scratch, stage, device,
-    ) {
-        Opened::Ready(store) => Opening {
-            number: 0,
-            e: fresh(base, store),
-        },
-        Opened::Refused(n) => refused(n),
+
+    /// Is all as an opening and the calls since leave it: the rooms' lengths, the record's numbers, and the
+    /// parts that are lent, which an opening would have taken.
+    #[tactic(auto, unfolding(crate::specs::Api::fits, crate::specs::Api::engine_ok, crate::specs::Api::up_ok, storage::specs::Store::good))]
+    pub fn fits(&self, given: &Given<'_>, request: &[u8], rooms: &Rooms<'_>) -> bool
+        ensures { result ≡ fits given.now (world_of self.now request.now rooms.now) }
+    {
+        numbers_ok(
+            request.len(),
+            rooms.reply.len(),
+            self.frame,
+            self.said,
+            self.up.target,
+            self.up.written,
+            self.up.left,
+        ) && self.parts_ok(given, rooms)
     }
-}
 
-// Opens an engine over a NAND: refusals 9 and 12 to 14, in that order. Every slice is left as it was.
-pub fn open_nand(
-    request: &[u8],
-    reply: &[u8],
-    chip: &[u8],
-    page: u64,
-    pages: u64,
-    blocks: u64,
-    marks: &[u8],
-    capacity: u64,
-    offsets: &[u64],
-    sizes: &[u64],
-    lens: &[u64],
-    names: &[u8],
-    base: u32,
-    scratch: &[u8],
-    stage: u8,
-    device: u32,
-) -> Opening
-    ensures { result ≡ opened_nand (length request.now) (length reply.now) (length chip.now) page pages blocks (length marks.now) capacity (lists offsets.now sizes.now lens.now names.now) base (length scratch.now) stage device }
-{
-    if !rooms_ok(request.len(), reply.len()) {
-        return refused(9);
+    // ---- write and read
+
+    /// The bytes of a write are taken: `transport_write`. `Refused` leaves all as it was; `Failed` is the
+    /// write of a frame that isn't taken, or of a command that failed, and the bytes behind it are dropped.
+    #[tactic(auto, using(crate::proofs::Apis::world_fit), unfolding(crate::specs::Api::writes))]
+    pub fn write(
+        &mut self,
+        given: &Given<'_>,
+        request: &mut [u8],
+        rooms: &mut Rooms<'_>,
+        bytes: &[u8],
+    ) -> Result<(), CallError>
+        ensures rooms { KeepsRooms rooms.old rooms.new }
+        ensures writes { out_of (status_in result) (world_of self.new request.new rooms.new) ≡ writes given.now (world_of self.old request.old rooms.old) bytes.now }
+    {
+        if !self.fits(given, request, rooms) {
+            return Err(CallError::Refused);
+        }
+        self.feed(given, request, rooms, bytes)
     }
-    match storage::open::open_nand(
-        chip, page, pages, blocks, marks, capacity, offsets, sizes, lens, names, base, scratch,
-        stage, device,
-    ) {
-        Opened::Ready(store) => Opening {
-            number: 0,
-            e: fresh(base, store),
-        },
-        Opened::Refused(n) => refused(n),
+
+    /// The next bytes of the reply are copied, as many as wait and the room takes: `transport_read`. Says how
+    /// many; the room beyond them stays as it was. `Refused` leaves all as it was, and nothing else fails.
+    #[tactic(auto, using(crate::proofs::Apis::said_in), unfolding(crate::specs::Api::reads))]
+    pub fn read(
+        &mut self,
+        given: &Given<'_>,
+        request: &[u8],
+        rooms: &Rooms<'_>,
+        room: &mut [u8],
+    ) -> Result<usize, CallError>
+        ensures { took result self.new room.new ≡ reads given.now (world_of self.old request.now rooms.now) room.old }
+    {
+        if !self.fits(given, request, rooms) {
+            return Err(CallError::Refused);
+        }
+        let pos = self.said.pos;
+        let n = (self.said.len - pos).min(room.len());
+        room[..n].copy_from_slice(&rooms.reply[pos..pos + n]);
+        self.said.pos = pos + n;
+        Ok(n)
     }
-}
 
-// ---- write
+    // ---- reset and the flags
 
-// The bytes of a write are taken: status 0, 1, or 9 where nothing is changed.
-pub fn write(
-    e: Engine,
-    request: &mut [u8],
-    faults: &[u8],
-    marks: &[u8],
-    offsets: &[u64],
-    sizes: &[u64],
-    lens: &[u64],
-    names: &[u8],
-    table: &[u8],
-    chip: &mut [u8],
-    buffer: &mut [u8],
-    scratch: &mut [u8],
-    reply: &mut [u8],
-    bytes: &[u8],
-) -> Did
-    ensures { out result request.new reply.new chip.new buffer.new scratch.new ≡ writes (given (lent faults.now marks.now) (lists offsets.now sizes.now lens.now names.now) table.now) (world e request.old reply.old chip.old buffer.old scratch.old) bytes.now }
-{
-    if all_ok(
-        e, request, reply, chip, buffer, scratch, marks, offsets, sizes, lens, names,
-    ) {
-        return feed(
-            e, request, faults, marks, offsets, sizes, lens, names, table, chip, buffer, scratch,
-            reply, bytes,
-        );
+    /// The record with request, reply, update record and stream emptied; flags, scratch and storage stay.
+    pub fn cleared(self) -> Engine
+        ensures { result ≡ cleared self }
+    {
+        Engine {
+            upgrading: self.upgrading,
+            asked: self.asked,
+            ..fresh(self.base, self.store)
+        }
     }
-    Did { status: 9, e }
-}
 
-// ---- read
-
-// A read's answer: refused (9), or how many bytes were copied.
-#[derive(Clone, Copy)]
-pub enum Got {
-    Refused,
-    Count(usize),
-}
-
-#[derive(Clone, Copy)]
-pub struct Taken {
-    pub got: Got,
-    pub e: Engine,
-}
-
-fn least(a: usize, b: usize) -> usize
-    ensures { result ≡ min a b }
-{
-    if a < b { a } else { b }
-}
-
-// So many bytes more were read of the reply.
-fn advanced(mut e: Engine, n: usize) -> Engine
-    requires { e.said.pos + n ≤ 4112 }
-    ensures { result ≡ with_said (record { len = e.said.len; pos = e.said.pos + n }) e }
-{
-    let pos = e.said.pos + n;
-    e.said.pos = pos;
-    e
-}
-
-// The next bytes of the reply are copied, as many as wait and the room takes.
-pub fn read(
-    e: Engine,
-    request: &[u8],
-    reply: &[u8],
-    chip: &[u8],
-    buffer: &[u8],
-    scratch: &[u8],
-    marks: &[u8],
-    offsets: &[u64],
-    sizes: &[u64],
-    lens: &[u64],
-    names: &[u8],
-    room: &mut [u8],
-) -> Taken
-    ensures { (f t : List ℕ) → took result room.new ≡ reads (given (lent f marks.now) (lists offsets.now sizes.now lens.now names.now) t) (world e request.now reply.now chip.now buffer.now scratch.now) room.old }
-{
-    if !all_ok(
-        e, request, reply, chip, buffer, scratch, marks, offsets, sizes, lens, names,
-    ) {
-        return Taken {
-            got: Got::Refused,
-            e,
-        };
+    /// Has the host started an upgrade: `host_upgrading`.
+    pub fn is_upgrading(self) -> bool
+        ensures { result ≡ self.upgrading }
+    {
+        self.upgrading
     }
-    let pos = e.said.pos;
-    let n = least(e.said.len - pos, room.len());
-    let end = pos + n;
-    put(room, 0, &reply[pos..end]);
-    Taken {
-        got: Got::Count(n),
-        e: advanced(e, n),
+
+    /// Did the host ask for a reset: `reset_requested`.
+    pub fn is_asked(self) -> bool
+        ensures { result ≡ self.asked }
+    {
+        self.asked
     }
-}
-
-// ---- reset and the flags
-
-// Request, reply, update record and stream are emptied; flags, scratch and storage stay.
-pub fn cleared(e: Engine) -> Engine
-    ensures { result ≡ cleared e }
-{
-    let store = e.store;
-    Engine {
-        frame: Frame { len: 0, total: 0 },
-        said: Said { len: 0, pos: 0 },
-        up: no_update(),
-        upgrading: e.upgrading,
-        asked: e.asked,
-        base: e.base,
-        store,
-    }
-}
-
-// Has the host started an upgrade: `host_upgrading`.
-pub fn is_upgrading(e: Engine) -> bool
-    ensures { result ≡ e.upgrading }
-{
-    e.upgrading
-}
-
-// Did the host ask for a reset: `reset_requested`.
-pub fn is_asked(e: Engine) -> bool
-    ensures { result ≡ e.asked }
-{
-    e.asked
 }

@@ -1,21 +1,23 @@
-// A whole frame is executed: protocol.rs `execute_inner`. The commands stand in four groups, by the
-// lent slices that they touch.
-ghost use Rattle.std.specs.Prelude.{◌≡◌, ℕ, ◌+◌, ◌≤◌, List, length};
-ghost use Rattle.storage.specs.World.{lent};
-ghost use Rattle.storage.specs.Partition.{lists};
-ghost use Rattle.engine.specs.World.{emptied, given, world, out};
+// A whole frame is executed: protocol.rs `execute_inner`. The commands stand in four groups, by what
+// they touch.
+ghost use Rattle.std.specs.Prelude.{◌≡◌, ℕ, ◌≤◌, List, length, MatchOption, None};
+ghost use Rattle.storage.specs.World.{status_in};
+ghost use Rattle.engine.specs.World.{KeepsRooms, world_of, emptied, out_of};
 ghost use Rattle.engine.specs.Reply.{gone, going};
-ghost use Rattle.engine.specs.Exec.{group_of, runs, order_of, begun, performs, execs};
+ghost use Rattle.engine.specs.Exec.{group_of, runs, order_of, IsOrder, begun, performed, execs};
 
-use crate::command::{is_query, memory, plain};
-use crate::reply::end;
-use crate::running::shell;
-use crate::storing::stored;
-use crate::types::{Did, Engine, Frame, Left};
+use crate::command::{
+    CMD_ERASE_STORAGE, CMD_GET_FWC_CRC, CMD_READ, CMD_READ_FWC_DATA, CMD_RUN_SHELL_STR,
+    CMD_SET_FWC_META, CMD_SET_UPG_END, CMD_WRITE, is_query, plain,
+};
+use crate::given::Given;
+use crate::rooms::Rooms;
+use crate::types::{Engine, Failure, Frame};
+use storage::types::CallError;
 use wire::header::{Header, parse_header};
 
-// What a command touches besides the reply: scratch, scratch and storage, storage, or nothing.
-#[derive(Clone, Copy)]
+/// What a command touches besides the reply: scratch, scratch and storage, storage, or nothing.
+#[derive(Clone, Copy, Debug, PartialEq, Eq)]
 pub enum Group {
     Memory,
     Shell,
@@ -23,174 +25,125 @@ pub enum Group {
     Plain,
 }
 
+// A table and no `From`: a command is no group, and many share one.
+#[tactic(auto, using(std::proofs::lemmas::Bool::Decides::nat_tests), unfolding(storage::specs::Open::one_of))]
 pub(crate) fn group_of(command: u8) -> Group
     ensures { result ≡ group_of command }
 {
     match command {
-        0x02 => Group::Memory,
-        0x03 => Group::Memory,
-        0x05 => Group::Shell,
-        0x0B => Group::Storage,
-        0x10 => Group::Storage,
-        0x13 => Group::Storage,
-        0x18 => Group::Storage,
-        0x1B => Group::Storage,
+        CMD_WRITE | CMD_READ => Group::Memory,
+        CMD_RUN_SHELL_STR => Group::Shell,
+        CMD_SET_UPG_END
+        | CMD_SET_FWC_META
+        | CMD_GET_FWC_CRC
+        | CMD_READ_FWC_DATA
+        | CMD_ERASE_STORAGE => Group::Storage,
         _ => Group::Plain,
     }
 }
 
-// A command is run on its payload: its data lie in the reply room from 16 on.
-fn runs(
-    e: Engine,
-    command: u8,
-    payload: &[u8],
-    faults: &[u8],
-    marks: &[u8],
-    offsets: &[u64],
-    sizes: &[u64],
-    lens: &[u64],
-    names: &[u8],
-    table: &[u8],
-    chip: &mut [u8],
-    buffer: &mut [u8],
-    scratch: &mut [u8],
-    reply: &mut [u8],
-) -> Left
-    ensures { (q : List ℕ) → gone result q reply.new chip.new buffer.new scratch.new ≡ going (runs (given (lent faults.now marks.now) (lists offsets.now sizes.now lens.now names.now) table.now) command payload.now (world e q reply.old chip.old buffer.old scratch.old)) }
+// What a frame asks for: its command and the bytes of its data; `None` where it is cut. The header is read
+// once more, as the Rust does.
+fn order_of(frame: &[u8]) -> Option<(u8, &[u8])>
+    ensures { MatchOption result (order_of frame.now ≡ None) (λ o. IsOrder frame.now o.0 o.1.now) }
 {
-    match group_of(command) {
-        Group::Memory => memory(e, command, payload, scratch, reply),
-        Group::Shell => shell(e, payload, faults, marks, chip, buffer, scratch),
-        Group::Storage => stored(
-            e, command, payload, faults, marks, offsets, sizes, lens, names, chip, buffer, reply,
-        ),
-        Group::Plain => {
-            let ended = plain(e.base, e.up.burn, e.up.run, e.store, command, table, reply);
-            Left { ended, e }
-        }
-    }
-}
-
-// ---- a frame
-
-// What a frame asks for: its command and how many bytes of data it has; `Bad` where it is cut.
-#[derive(Clone, Copy)]
-pub enum Order {
-    Bad,
-    Run(u8, usize),
-}
-
-// The header is read once more, as the Rust does.
-fn order_of(frame: &[u8]) -> Order
-    ensures { result ≡ order_of frame.now }
-{
-    let Header::Request {
+    let Header {
         command,
         status: _,
         length,
-    } = parse_header(frame)
-    else {
-        return Order::Bad;
-    };
+    } = parse_header(frame)?;
     let n = length as usize;
     if frame.len() < 16 + n {
-        return Order::Bad;
+        return None;
     }
-    Order::Run(command, n)
+    Some((command, &frame[16..16 + n]))
 }
 
-// The request emptied: its bytes stay, its length is 0.
-pub(crate) fn emptied(mut e: Engine) -> Engine
-    ensures { result ≡ emptied e }
-{
-    let frame = Frame { len: 0, total: 0 };
-    e.frame = frame;
-    e
-}
-
-// A command that does not only look raises `host_upgrading`; the request is emptied.
-fn begun(mut e: Engine, command: u8) -> Engine
-    ensures { result ≡ begun command e }
-{
-    let frame = Frame { len: 0, total: 0 };
-    e.frame = frame;
-    if !is_query(command) {
-        e.upgrading = true;
+impl Engine {
+    // A command is run on its payload: its data lie in the reply room from 16 on.
+    // A command is its byte, as command.rt says: any may come, and the reply's header has it.
+    // `q`, here and below, is any request: it isn't lent, since a command's data are a part of it.
+    #[tactic(auto, using(crate::proofs::Commands::plain_sees), unfolding(crate::specs::Exec::runs))]
+    fn runs(
+        &mut self,
+        given: &Given<'_>,
+        rooms: &mut Rooms<'_>,
+        command: u8,
+        payload: &[u8],
+    ) -> Result<u32, Failure>
+        ensures rooms { KeepsRooms rooms.old rooms.new }
+        ensures runs { (q : List ℕ) → gone result (world_of self.new q rooms.new) ≡ going (runs given.now command payload.now (world_of self.old q rooms.old)) }
+    {
+        // a `match`: each group is lent other parts
+        match group_of(command) {
+            Group::Memory => self.memory(rooms, command, payload),
+            Group::Shell => self.shell(given, rooms, payload),
+            Group::Storage => self.stored(given, rooms, command, payload),
+            Group::Plain => plain(
+                self.base,
+                self.up.burn,
+                self.up.run,
+                &self.store,
+                command,
+                given.table,
+                rooms.reply,
+            ),
+        }
     }
-    e
-}
 
-// A command is run on its data and answered.
-fn perform(
-    e: Engine,
-    command: u8,
-    n: usize,
-    request: &[u8],
-    faults: &[u8],
-    marks: &[u8],
-    offsets: &[u64],
-    sizes: &[u64],
-    lens: &[u64],
-    names: &[u8],
-    table: &[u8],
-    chip: &mut [u8],
-    buffer: &mut [u8],
-    scratch: &mut [u8],
-    reply: &mut [u8],
-) -> Did
-    requires { (16 + n ≤ length request.now) × (length reply.old ≡ 4112) }
-    ensures { out result request.now reply.new chip.new buffer.new scratch.new ≡ performs (given (lent faults.now marks.now) (lists offsets.now sizes.now lens.now names.now) table.now) command n (world e request.now reply.old chip.old buffer.old scratch.old) }
-{
-    let last = 16 + n;
-    let r = runs(
-        begun(e, command),
-        command,
-        &request[16..last],
-        faults,
-        marks,
-        offsets,
-        sizes,
-        lens,
-        names,
-        table,
-        chip,
-        buffer,
-        scratch,
-        reply,
-    );
-    let f = r.e;
-    let ended = r.ended;
-    end(f, command, ended, reply)
-}
+    // ---- a frame
 
-// The frame that the request room holds is executed.
-pub(crate) fn exec(
-    e: Engine,
-    request: &[u8],
-    faults: &[u8],
-    marks: &[u8],
-    offsets: &[u64],
-    sizes: &[u64],
-    lens: &[u64],
-    names: &[u8],
-    table: &[u8],
-    chip: &mut [u8],
-    buffer: &mut [u8],
-    scratch: &mut [u8],
-    reply: &mut [u8],
-) -> Did
-    requires { (e.frame.total ≤ length request.now) × (length reply.old ≡ 4112) }
-    ensures { out result request.now reply.new chip.new buffer.new scratch.new ≡ execs (given (lent faults.now marks.now) (lists offsets.now sizes.now lens.now names.now) table.now) (world e request.now reply.old chip.old buffer.old scratch.old) }
-{
-    let total = e.frame.total;
-    let Order::Run(command, n) = order_of(&request[0..total]) else {
-        return Did {
-            status: 1,
-            e: emptied(e),
+    // The request emptied: its bytes stay, its length is 0.
+    pub(crate) fn empty_request(&mut self)
+        ensures { self.new ≡ emptied self.old }
+    {
+        self.frame = Frame { len: 0, total: 0 };
+    }
+
+    // A command that does not only look raises `host_upgrading`; the request is emptied.
+    fn begin_command(&mut self, command: u8)
+        ensures { self.new ≡ begun command self.old }
+    {
+        self.empty_request();
+        if !is_query(command) {
+            self.upgrading = true;
+        }
+    }
+
+    // A command is run on its data and answered.
+    // The bound on `reply`, here and in the callers: an array wants a second `Rooms`, and in `write` a second test behind `fits`.
+    fn perform(
+        &mut self,
+        given: &Given<'_>,
+        rooms: &mut Rooms<'_>,
+        command: u8,
+        payload: &[u8],
+    ) -> Result<(), CallError>
+        requires { length rooms.old.reply.now ≡ 4112 }
+        ensures rooms { KeepsRooms rooms.old rooms.new }
+        ensures performs { (q : List ℕ) → out_of (status_in result) (world_of self.new q rooms.new) ≡ performed given.now command payload.now (world_of self.old q rooms.old) }
+    {
+        self.begin_command(command);
+        let ended = self.runs(given, rooms, command, payload);
+        self.end(rooms, command, ended)
+    }
+
+    // The frame that the request room holds is executed.
+    #[tactic(auto, unfolding(crate::specs::Exec::execs))]
+    pub(crate) fn exec(
+        &mut self,
+        given: &Given<'_>,
+        request: &[u8],
+        rooms: &mut Rooms<'_>,
+    ) -> Result<(), CallError>
+        requires { (self.old.frame.total ≤ length request.now) × (length rooms.old.reply.now ≡ 4112) }
+        ensures rooms { KeepsRooms rooms.old rooms.new }
+        ensures execs { out_of (status_in result) (world_of self.new request.now rooms.new) ≡ execs given.now (world_of self.old request.now rooms.old) }
+    {
+        let Some((command, payload)) = order_of(&request[..self.frame.total]) else {
+            self.empty_request();
+            return Err(CallError::Failed);
         };
-    };
-    perform(
-        e, command, n, request, faults, marks, offsets, sizes, lens, names, table, chip, buffer,
-        scratch, reply,
-    )
+        self.perform(given, rooms, command, payload)
+    }
 }

@@ -1,55 +1,42 @@
-// The storage shell, from shell.rs and `shell_line` of protocol.rs (01, 'Shell'), as far as it works on values: where the line
+// The storage shell, from shell.rs and `shell_line` of protocol.rs, as far as it works on values: where the line
 // of a payload ends, what a line asks for, where its buffer lies in scratch, and the device table that `get_bootdevice` fills.
-ghost use Rattle.std.specs.Prelude.{◌≡◌, ℕ, ◌-◌, min};
+ghost use Rattle.std.specs.Prelude.{◌≡◌, ℕ, Some, OnSome};
 ghost use Rattle.text.specs.Utf8.{any_of};
-ghost use Rattle.text.specs.Token.{same, rest_of};
+ghost use Rattle.text.specs.Token.{same};
 ghost use Rattle.wire.specs.Bytes.{laid, bytes_of};
-ghost use Rattle.engine.specs.Shell.{line_of, word_of, done_words, with_number, next_at, id_past, on_three, erase_of, write_of, read_of, boot_of, is_write, is_reset, window_of, boot_words, boot_name, boot_table, text_of};
+ghost use Rattle.engine.specs.Shell.{line_of, word_of, done_words, with_number, with_id, tokens_left, behind, three_of, erase_of, boot_of, is_write, is_reset, window_of, boot_words, boot_name, boot_table, text_of};
 
-use storage::chip::fill;
-use text::number::Number;
-use text::token::{Place, place_after, same, starts_with, token};
+use text::token::{place_after, same, starts_with, token};
 use text::utf8::is_utf8;
 use wire::bytes::{le4, put, u32_at};
 
 // ---- the line of a RUN_SHELL_STR payload
 
-// How many bytes the line has that a payload holds behind their count; `Bad` where they are not all there, or are not UTF-8.
-#[derive(Clone, Copy)]
-pub enum Text {
-    Bad,
-    Len(usize),
-}
-
-// protocol.rs's `shell_line`: the line is the part of the payload from 4 on that is as long as the answer says.
-pub fn text_len(payload: &[u8]) -> Text
+/// protocol.rs's `shell_line`: how many bytes the line has that a payload holds behind their count of four bytes; `None` where
+/// they are not all there, or are not UTF-8. The line is the part of the payload from 4 on that is as long.
+pub fn text_len(payload: &[u8]) -> Option<usize>
     ensures { result ≡ text_of payload.now }
 {
     if payload.len() < 4 {
-        return Text::Bad;
+        return None;
     }
     let n = u32_at(payload, 0) as usize;
-    if payload.len() - 4 < n {
-        return Text::Bad;
+    if n <= payload.len() - 4 && is_utf8(&payload[4..4 + n]) {
+        Some(n)
+    } else {
+        None
     }
-    let end = 4 + n;
-    if is_utf8(&payload[4..end]) {
-        return Text::Len(n);
-    }
-    Text::Bad
 }
 
-// Does a line ask for a change of flash.
+/// Does a line ask for a change of flash.
 pub fn is_write(line: &[u8]) -> bool
     ensures { result ≡ is_write line.now }
 {
-    if starts_with(line, b"bderase") {
-        return true;
-    }
-    starts_with(line, b"bdwrite")
+    starts_with(line, b"bderase") || starts_with(line, b"bdwrite")
 }
 
-// Is a line's first token `reset`.
+/// Is a line's first token `reset`.
+#[tactic(auto, using(crate::proofs::Lines::first_token), unfolding(crate::specs::Shell::is_reset))]
 pub fn is_reset(line: &[u8]) -> bool
     ensures { result ≡ is_reset line.now }
 {
@@ -58,10 +45,9 @@ pub fn is_reset(line: &[u8]) -> bool
 
 // ---- what a line asks for
 
-// What a command word asks for; `Other` for a word that is no command.
-#[derive(Clone, Copy)]
+// What a command word asks for.
+#[derive(Clone, Copy, Debug, PartialEq, Eq)]
 enum Word {
-    Other,
     Done,
     Erase,
     Write,
@@ -69,10 +55,10 @@ enum Word {
     Boot,
 }
 
-// What a line asks for: nothing that is known (`Bad`), nothing to do (`Done`), or a command with its numbers.
-#[derive(Clone, Copy)]
+/// What a line asks for: nothing to do (`Done`), or a command with its numbers.
+// Five commands of which one has no numbers: no `Option`.
+#[derive(Clone, Copy, Debug, PartialEq, Eq)]
 pub enum Line {
-    Bad,
     Done,
     Erase { start: u64, size: u64 },
     Write { offset: u64, len: u64, addr: u64 },
@@ -80,206 +66,155 @@ pub enum Line {
     Boot { addr: u64, len: u64 },
 }
 
-// A number at a place of a line and the place of the token behind it, if a number stands there.
-#[derive(Clone, Copy)]
-enum Next {
-    Bad,
-    Number(u64, Place),
-}
-
-// Three numbers, if they are there.
-#[derive(Clone, Copy)]
-enum Three {
-    Bad,
-    All(u64, u64, u64),
-}
-
 // Is a word one of those that are accepted with nothing to do.
+#[tactic(auto, unfolding(crate::specs::Shell::done_words, text::specs::Utf8::any_of))]
 fn is_done(word: &[u8]) -> bool
     ensures { result ≡ any_of (same word.now) done_words }
 {
-    if same(word, b"bdopen") {
-        return true;
-    }
-    if same(word, b"bdclose") {
-        return true;
-    }
-    if same(word, b"bdcfg") {
-        return true;
-    }
-    if same(word, b"efuse") {
-        return true;
-    }
-    if same(word, b"aicupg") {
-        return true;
-    }
-    same(word, b"reset")
+    same(word, b"bdopen")
+        || same(word, b"bdclose")
+        || same(word, b"bdcfg")
+        || same(word, b"efuse")
+        || same(word, b"aicupg")
+        || same(word, b"reset")
 }
 
-// What a command word asks for, compared byte for byte.
-fn word_of(word: &[u8]) -> Word
+// What a command word asks for, compared byte for byte; `None` for a word that is no command.
+#[tactic(auto, unfolding(crate::specs::Shell::word_of))]
+fn word_of(word: &[u8]) -> Option<Word>
     ensures { result ≡ word_of word.now }
 {
     if is_done(word) {
-        return Word::Done;
-    }
-    if same(word, b"bderase") {
-        return Word::Erase;
-    }
-    if same(word, b"bdwrite") {
-        return Word::Write;
-    }
-    if same(word, b"bdread") {
-        return Word::Read;
-    }
-    if same(word, b"get_bootdevice") {
-        return Word::Boot;
-    }
-    Word::Other
-}
-
-// The place behind the id token, whatever that says.
-fn past_id(line: &[u8], place: Place) -> Place
-    ensures { result ≡ id_past line.now place }
-{
-    match place {
-        Place::At(p) => place_after(line, p),
-        Place::Done => Place::Done,
+        Some(Word::Done)
+    } else if same(word, b"bderase") {
+        Some(Word::Erase)
+    } else if same(word, b"bdwrite") {
+        Some(Word::Write)
+    } else if same(word, b"bdread") {
+        Some(Word::Read)
+    } else if same(word, b"get_bootdevice") {
+        Some(Word::Boot)
+    } else {
+        None
     }
 }
 
-// The number at a place: one turn of `take` of shell.rs.
-fn next_number(line: &[u8], place: Place) -> Next
-    ensures { result ≡ next_at line.now place }
-{
-    let Place::At(p) = place else {
-        return Next::Bad;
-    };
-    let Number::Value(n) = text::number::parse(token(line, p)) else {
-        return Next::Bad;
-    };
-    Next::Number(n, place_after(line, p))
+// The tokens of a line from a place on, which are taken one by one; none are left at no place.
+#[derive(Clone, Copy, Debug)]
+struct Tokens<'a> {
+    line: &'a [u8],
+    place: Option<usize>,
 }
 
-// Three numbers from a place on, for what is made of them.
-fn three_from(line: &[u8], place: Place) -> Three
-    ensures { (f : ℕ → ℕ → ℕ → Line) → on_three f result ≡ with_number (λ a. with_number (λ b. with_number (λ c ts. f a b c))) (rest_of line.now place) }
-{
-    let Next::Number(a, p) = next_number(line, place) else {
-        return Three::Bad;
-    };
-    let Next::Number(b, q) = next_number(line, p) else {
-        return Three::Bad;
-    };
-    let Next::Number(c, _) = next_number(line, q) else {
-        return Three::Bad;
-    };
-    Three::All(a, b, c)
+impl Tokens<'_> {
+    // The next token, whatever it says.
+    #[tactic(auto, using(text::proofs::Tokens::tokens_from), unfolding(text::specs::Token::rest_of))]
+    fn skip(&mut self)
+        ensures { tokens_left self.new ≡ behind (tokens_left self.old) }
+    {
+        if let Some(at) = self.place {
+            self.place = place_after(self.line, at);
+        }
+    }
+
+    // The number that the next token says: one turn of `take` of shell.rs.
+    fn number(&mut self) -> Option<u64>
+        ensures value { result ≡ with_number (λ n ts. Some n) (tokens_left self.old) }
+        ensures rest { OnSome result (tokens_left self.new ≡ behind (tokens_left self.old)) }
+    {
+        let at = self.place?;
+        self.place = place_after(self.line, at);
+        text::number::parse(token(self.line, at))
+    }
+
+    // The three numbers of `bdwrite` and `bdread`, behind an id: offset, length and address.
+    fn three(mut self) -> Option<(u64, u64, u64)>
+        ensures { result ≡ three_of (behind (tokens_left self.entry)) }
+    {
+        self.skip();
+        let offset = self.number()?;
+        let len = self.number()?;
+        let addr = self.number()?;
+        Some((offset, len, addr))
+    }
+
+    // The range that `bderase` erases, behind an id.
+    fn erase(mut self) -> Option<Line>
+        ensures { result ≡ with_id erase_of (tokens_left self.entry) }
+    {
+        self.skip();
+        let start = self.number()?;
+        let size = self.number()?;
+        Some(Line::Erase { start, size })
+    }
+
+    // Where `get_bootdevice` fills the device table.
+    fn boot(mut self) -> Option<Line>
+        ensures { result ≡ boot_of (tokens_left self.entry) }
+    {
+        let addr = self.number()?;
+        let len = self.number()?;
+        Some(Line::Boot { addr, len })
+    }
 }
 
-// The range that `bderase` erases.
-fn erase_from(line: &[u8], place: Place) -> Line
-    ensures { result ≡ erase_of (rest_of line.now place) }
-{
-    let Next::Number(start, p) = next_number(line, place) else {
-        return Line::Bad;
-    };
-    let Next::Number(size, _) = next_number(line, p) else {
-        return Line::Bad;
-    };
-    Line::Erase { start, size }
-}
-
-// What `bdwrite` moves.
-fn write_from(line: &[u8], place: Place) -> Line
-    ensures { result ≡ write_of (rest_of line.now place) }
-{
-    let Three::All(offset, len, addr) = three_from(line, place) else {
-        return Line::Bad;
-    };
-    Line::Write { offset, len, addr }
-}
-
-// What `bdread` moves.
-fn read_from(line: &[u8], place: Place) -> Line
-    ensures { result ≡ read_of (rest_of line.now place) }
-{
-    let Three::All(offset, len, addr) = three_from(line, place) else {
-        return Line::Bad;
-    };
-    Line::Read { offset, len, addr }
-}
-
-// Where `get_bootdevice` fills the device table.
-fn boot_from(line: &[u8], place: Place) -> Line
-    ensures { result ≡ boot_of (rest_of line.now place) }
-{
-    let Next::Number(addr, p) = next_number(line, place) else {
-        return Line::Bad;
-    };
-    let Next::Number(len, _) = next_number(line, p) else {
-        return Line::Bad;
-    };
-    Line::Boot { addr, len }
-}
-
-// What a line asks for: `run` of shell.rs up to the storage. Tokens past those that the command takes are not looked at.
-pub fn parse(line: &[u8]) -> Line
+/// What a line asks for: `run` of shell.rs up to the storage. `None` where that is nothing known. Tokens past those that the
+/// command takes are not looked at.
+#[tactic(auto, using(crate::proofs::Lines::first_token, crate::proofs::Lines::three_id), unfolding(crate::specs::Shell::line_of))]
+pub fn parse(line: &[u8]) -> Option<Line>
     ensures { result ≡ line_of line.now }
 {
-    let word = word_of(token(line, 0));
-    let place = place_after(line, 0);
+    let word = word_of(token(line, 0))?;
+    let tokens = Tokens {
+        line,
+        place: place_after(line, 0),
+    };
+    // a `match`: the words are a closed enum, and each arm reads other tokens
     match word {
-        Word::Other => Line::Bad,
-        Word::Done => Line::Done,
-        Word::Erase => erase_from(line, past_id(line, place)),
-        Word::Write => write_from(line, past_id(line, place)),
-        Word::Read => read_from(line, past_id(line, place)),
-        Word::Boot => boot_from(line, place),
+        Word::Done => Some(Line::Done),
+        Word::Erase => tokens.erase(),
+        Word::Write => {
+            let (offset, len, addr) = tokens.three()?;
+            Some(Line::Write { offset, len, addr })
+        }
+        Word::Read => {
+            let (offset, len, addr) = tokens.three()?;
+            Some(Line::Read { offset, len, addr })
+        }
+        Word::Boot => tokens.boot(),
     }
 }
 
 // ---- the buffer of a line in scratch
 
-// The part of scratch that an address and a length name.
-#[derive(Clone, Copy)]
-pub enum Window {
-    Out,
-    At { place: usize, len: usize },
+/// A part of scratch: where it starts, and how long it is.
+// A place and no slice: the storage's calls on scratch take a place and a length. Its bounds are those of scratch, so it is no `Frame`.
+#[derive(Clone, Copy, Debug, PartialEq, Eq)]
+pub struct Window {
+    pub place: usize,
+    pub len: usize,
 }
 
-// A length, cut to what a room has left from a place on.
-fn cut(len: u64, room: u64, at: u64) -> u64
-    ensures { result ≡ min len (room - at) }
-{
-    if room < at {
-        return 0;
-    }
-    if len < room - at { len } else { room - at }
-}
-
-// `window` of shell.rs: an address outside scratch is `Out`, and a length is cut to scratch's end.
-pub fn window_of(base: u32, size: usize, addr: u64, len: u64) -> Window
+/// `window` of shell.rs: the part of scratch that an address and a length name. `None` for an address outside scratch; a length
+/// is cut to scratch's end.
+pub fn window_of(base: u32, size: usize, addr: u64, len: u64) -> Option<Window>
     ensures { result ≡ window_of base size addr len }
 {
-    let start = base as u64;
-    if addr < start {
-        return Window::Out;
+    let off = addr.checked_sub(base as u64)?;
+    let size = size as u64;
+    if size <= off {
+        return None;
     }
-    let off = addr - start;
-    let room = size as u64;
-    if room <= off {
-        return Window::Out;
-    }
-    Window::At {
+    Some(Window {
         place: off as usize,
-        len: cut(len, room, off) as usize,
-    }
+        len: len.min(size - off) as usize,
+    })
 }
 
 // ---- the device table of `get_bootdevice`
 
 // `put_u32` of shell.rs: a word at a place, where its four bytes fit.
+// A place and no part, which a short slice doesn't have.
 fn put_word(s: &mut [u8], at: usize, x: u32)
     ensures { s.new ≡ laid s.old at (bytes_of 4 x) }
 {
@@ -287,6 +222,7 @@ fn put_word(s: &mut [u8], at: usize, x: u32)
 }
 
 // The words of the table: its kind, the block size and the low half of the capacity.
+#[tactic(auto, unfolding(crate::specs::Shell::boot_words))]
 fn boot_words(s: &mut [u8], block: u32, capacity: u64)
     ensures { s.new ≡ boot_words block capacity s.old }
 {
@@ -294,26 +230,27 @@ fn boot_words(s: &mut [u8], block: u32, capacity: u64)
     put_word(s, 0x08, 2);
     put_word(s, 0x18, block);
     put_word(s, 0x1C, block);
+    // The low half by `%`: a cast keeps every bit.
     put_word(s, 0x20, (capacity % 0x1_0000_0000) as u32);
 }
 
 // The name and its address, where the name fits.
+#[tactic(auto, using(std::proofs::lemmas::Bool::Decides::nat_tests), unfolding(crate::specs::Shell::boot_name))]
 fn boot_name(s: &mut [u8], base: u32, place: u32)
     ensures { s.new ≡ boot_name base place s.old }
 {
-    if s.len() < 0x52 {
-        return;
+    if 0x40 + 18 <= s.len() {
+        put(s, 0x40, b"artinchip spi-nor\0");
+        put_word(s, 0x24, base.wrapping_add(place).wrapping_add(0x40));
     }
-    put(s, 0x40, b"artinchip spi-nor\0");
-    let at = std::num::wrapping_add_u32(base, place);
-    put_word(s, 0x24, std::num::wrapping_add_u32(at, 0x40));
 }
 
-// `fill_bootdevice` of shell.rs, over the part of scratch from a place on that the line names.
+/// `fill_bootdevice` of shell.rs, over the part of scratch from a place on that the line names.
+#[tactic(auto, unfolding(crate::specs::Shell::boot_table))]
 pub fn boot_table(s: &mut [u8], base: u32, place: u32, block: u32, capacity: u64)
     ensures { s.new ≡ boot_table base place block capacity s.old }
 {
-    fill(s, 0);
+    s.fill(0);
     boot_words(s, block, capacity);
     boot_name(s, base, place);
 }

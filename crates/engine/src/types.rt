@@ -1,24 +1,28 @@
-// The engine's record, which goes in and comes back by value, in groups: protocol.rs's `Engine` without
-// what is lent at every call (rooms, chip, buffer, scratch, lists, table). Its answers stand here too.
+// The engine's record in groups: protocol.rs's `Engine` without what is lent at every call (rooms, chip,
+// buffer, scratch, partitions, table).
 use storage::types::Store;
 
-// The request room: how many bytes are gathered, and how many the frame has (0 while its header is not whole).
-#[derive(Clone, Copy)]
+/// The request room: how many bytes are gathered, and how many the frame has (0 while its header is not
+/// whole).
+// Counts and no slice, as in `Said`: a room is lent anew at each call. Each has bounds of its own, so no shared type.
+#[derive(Clone, Copy, Debug, PartialEq, Eq)]
 pub struct Frame {
     pub len: usize,
     pub total: usize,
 }
 
-// The reply room: how many bytes wait, and how many were read of them.
-#[derive(Clone, Copy)]
+/// The reply room: how many bytes wait, and how many were read of them.
+#[derive(Clone, Copy, Debug, PartialEq, Eq)]
 pub struct Said {
     pub len: usize,
     pub pos: usize,
 }
 
-// The update record, `FwcState`: the metadata and whether they are valid; whether there is a target, and
-// where; bytes written, their checksum, the burn and the run result; and what is left of the stream.
-#[derive(Clone, Copy)]
+/// The update record, `FwcState`: the metadata and whether they are valid; whether there is a target, and
+/// where; bytes written, their checksum, the burn and the run result; and what is left of the stream.
+// `valid` and `meta`, `aimed` and `target` are pairs and no `Option`s: `meta` keeps its bytes where `valid` is
+// false, and the definition `bounds_ok` bounds `target` also where `aimed` is false.
+#[derive(Clone, Copy, Debug, PartialEq, Eq)]
 pub struct Update {
     pub meta: [u8; 512],
     pub valid: bool,
@@ -31,9 +35,9 @@ pub struct Update {
     pub left: u64,
 }
 
-// `upgrading` and `asked` are `host_upgrading` and `reset_requested`; `base` is where scratch starts for
-// the host.
-#[derive(Clone, Copy)]
+/// The upgrade engine, protocol.rs's `Engine`. `upgrading` and `asked` are `host_upgrading` and
+/// `reset_requested`; `base` is where scratch starts for the host.
+#[derive(Clone, Copy, Debug, PartialEq, Eq)]
 pub struct Engine {
     pub frame: Frame,
     pub said: Said,
@@ -44,34 +48,11 @@ pub struct Engine {
     pub store: Store,
 }
 
-// What a step leaves: the status of a write (0 done, 1 refused or failed, 9), and the record.
-#[derive(Clone, Copy)]
-pub struct Did {
-    pub status: u8,
-    pub e: Engine,
-}
-
-// How a command ended: with so many bytes of data behind the header's place, failed, not known, or with
-// more data than a reply takes.
-#[derive(Clone, Copy)]
-pub enum Ended {
-    Ok(u32),
-    Fail,
+/// How a command ends that isn't OK: it failed, it is not known, or it has more data than a reply takes and
+/// answers with the odd reply. A command that is OK says how many bytes of data it laid into the reply.
+#[derive(Clone, Copy, Debug, PartialEq, Eq)]
+pub enum Failure {
+    Failed,
     Unsupported,
     Odd,
-}
-
-// What a command leaves: how it ended, and the record.
-#[derive(Clone, Copy)]
-pub struct Left {
-    pub ended: Ended,
-    pub e: Engine,
-}
-
-// What a turn of a write leaves: its status, the place of the next byte, and the record.
-#[derive(Clone, Copy)]
-pub struct Moved {
-    pub status: u8,
-    pub off: usize,
-    pub e: Engine,
 }

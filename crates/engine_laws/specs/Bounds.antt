@@ -1,13 +1,13 @@
 -- In bounds for ever (01, row 9 and 'In bounds'): every call from an engine that fits its parts leaves one that fits them, and none is
 -- refused with 9; and an accepted opening gives such an engine. So after an accepted opening no call with the same parts meets a 9,
 -- whatever was written, and whatever the chip did.
-use Rattle.std.specs.Prelude.{◌≡◌, Bool, true, false, ◌&&◌, cond, List, [], ◌∷◌, ℕ, ◌+◌, ◌-◌, ◌≤◌, ◌^◌, min, leb, ltb, eqb, length}
+use Rattle.std.specs.Prelude.{◌≡◌, Result, Ok, Bool, true, false, ◌&&◌, cond, List, [], ◌∷◌, ℕ, ◌+◌, ◌-◌, ◌≤◌, ◌^◌, min, leb, ltb, eqb, length}
 use Rattle.std.proofs.Math.Path.{refl}
 use Rattle.std.proofs.Common.{sym, ap, ◌∙◌, arith, le-leb, lt-ltb, eq-eqb, eqb-true}
 use Rattle.std.proofs.lemmas.Bool.{eqb-false}
 use Rattle.storage.specs.declared.types.Store.{Store}
-use Rattle.storage.specs.declared.open.Opened.{Opened}
-use Rattle.storage.specs.declared.open.Opened.TheVariants.{Ready}
+use Rattle.storage.specs.declared.types.Refusal.{Refusal}
+use Rattle.storage.specs.declared.types.Refusal.TheVariants as refusal
 use Rattle.storage.specs.World.{Lent, Dev, dev}
 use Rattle.storage.specs.Partition.{lists_ok, end_of}
 use Rattle.storage.specs.Open as opens
@@ -19,12 +19,10 @@ use Rattle.storage_laws.specs.Reasons.{nor_opening_lem, nand_opening_lem}
 use Rattle.engine.specs.declared.types.Frame.{Frame}
 use Rattle.engine.specs.declared.types.Said.{Said}
 use Rattle.engine.specs.declared.types.Update.{Update}
-use Rattle.engine.specs.declared.api.Opening.{Opening}
-use Rattle.engine.specs.declared.api.Got.TheVariants as got
 use Rattle.engine.specs.World.{Given, World, at_e, dev_of}
 use Rattle.engine.specs.Stream.{UpFit}
 use Rattle.engine.specs.Feed.{SaidFit, FrameFit, Fit, feeds}
-use Rattle.engine.specs.Api.{rooms_ok, frame_ok, said_ok, up_ok, engine_ok, fits, fresh, ready, refused, opened_by, opened_nor, opened_nand, writes, Read, read_by, reads, cleared}
+use Rattle.engine.specs.Api.{rooms_ok, frame_ok, said_ok, up_ok, engine_ok, fits, fresh, Opening, ready, refused, opened_by, opened_nor, opened_nand, writes, Read, read_by, reads, cleared}
 use Rattle.engine.proofs.Apis.{world_fit}
 use Rattle.engine_laws.specs.Carry.{Closed, Left, feeds_left, feeds_fit}
 
@@ -55,11 +53,9 @@ in_bounds g w e =
     record { fit = world_fit g w e; store = c.0; table = d.0; scratch = d.1 }
 
 rooms_ok_lem : (request reply : ℕ) → request ≡ 8208 → reply ≡ 4112 → rooms_ok request reply ≡ true
-unfolding rooms_ok
 rooms_ok_lem request reply p q = both _ _ (eq-eqb request 8208 p) (eq-eqb reply 4112 q)
 
 frame_ok_lem : (f : Frame) → FrameFit f → frame_ok f ≡ true
-unfolding frame_ok
 frame_ok_lem f h = go (eqb f.total 0) refl
   where
     go : (t : Bool) → eqb f.total 0 ≡ t → cond t (ltb f.len 16) (ltb f.len f.total && leb f.total 8208) ≡ true
@@ -67,7 +63,6 @@ frame_ok_lem f h = go (eqb f.total 0) refl
     go false e = both _ _ (lt-ltb f.len f.total (h.1 (eqb-false f.total 0 e))) (le-leb f.total 8208 h.2)
 
 said_ok_fit : (s : Said) → SaidFit s → said_ok s ≡ true
-unfolding said_ok
 said_ok_fit s h = both _ _ (le-leb s.pos s.len h.0) (le-leb s.len 4112 h.1)
 
 up_ok_fit : (u : Update) → UpFit u → up_ok u ≡ true
@@ -132,7 +127,7 @@ module _ (g : Given) (w : World) where
     read_is room = rw f
 
     -- a read answers a count: what waits, or what the room takes
-    pub read_told : (room : List ℕ) → (reads g w room).got ≡ got.Count (min (w.e.said.len - w.e.said.pos) (length room))
+    pub read_told : (room : List ℕ) → (reads g w room).got ≡ Ok (min (w.e.said.len - w.e.said.pos) (length room))
     read_told room = ap (λ (r : Read). r.got) (read_is room)
 
     -- it leaves an engine in bounds
@@ -190,7 +185,7 @@ after_all g w (c ∷ cs) = after_all g (after g w c) cs
 -- a call that is not refused
 abbrev pub Accepted : Given → World → Call → Type 0
 Accepted g w (write d) = (writes g w d).status ≤ 1
-Accepted g w (read room) = (reads g w room).got ≡ got.Count (min (w.e.said.len - w.e.said.pos) (length room))
+Accepted g w (read room) = (reads g w room).got ≡ Ok (min (w.e.said.len - w.e.said.pos) (length room))
 Accepted g w reset = Unit {0}
 
 -- a run of which none is
@@ -224,24 +219,24 @@ run_accepted g (c ∷ cs) w f = (accepted g w c f, run_accepted g cs (after g w 
 -- an engine over a store as it is opened
 fresh_fits : (g : Given) (w : World) (base : ℕ) (s : Store) → rooms_ok (length w.request) (length w.reply) ≡ true → good g.lent (dev s w.chip w.buffer) ≡ true
     → lists_ok g.lists ≡ true → base + length w.scratch ≤ 4294967296 → fits g (at_e (fresh base s) w) ≡ true
-unfolding fits engine_ok frame_ok said_ok up_ok scratch_ok
+unfolding fits engine_ok up_ok scratch_ok
 fresh_fits g w base s r p t h = both _ _ r (both _ _ p (both _ _ t (le-leb (base + length w.scratch) 4294967296 h)))
 
 -- an opening that is accepted passed every test
-rooms_passed : (r : Bool) (base : ℕ) (o : Opened) → (cond r (opened_by base o) (refused 9)).number ≡ 0 → r ≡ true
+rooms_passed : (r : Bool) (base : ℕ) (o : Result Store Refusal) → (cond r (opened_by base o) (refused 9)).number ≡ 0 → r ≡ true
 rooms_passed true base o e = refl
 rooms_passed false base o e = absurd (omega arith)
 
-nor_passed : (a b c d : Bool) (base : ℕ) (s : Store) → (opened_by base (unless a 10 (unless b 11 (unless c 12 (unless d 14 (Ready s)))))).number ≡ 0
-    → unless a 10 (unless b 11 (unless c 12 (unless d 14 (Ready s)))) ≡ Ready s
+nor_passed : (a b c d : Bool) (base : ℕ) (s : Store) → (opened_by base (unless a refusal.Buffer (unless b refusal.ChipSize (unless c refusal.Partitions (unless d refusal.Scratch (Ok s)))))).number ≡ 0
+    → unless a refusal.Buffer (unless b refusal.ChipSize (unless c refusal.Partitions (unless d refusal.Scratch (Ok s)))) ≡ Ok s
 nor_passed true true true true base s e = refl
 nor_passed true true true false base s e = absurd (omega arith)
 nor_passed true true false d base s e = absurd (omega arith)
 nor_passed true false c d base s e = absurd (omega arith)
 nor_passed false b c d base s e = absurd (omega arith)
 
-nand_passed : (a b c : Bool) (base : ℕ) (s : Store) → (opened_by base (unless a 12 (unless b 13 (unless c 14 (Ready s))))).number ≡ 0
-    → unless a 12 (unless b 13 (unless c 14 (Ready s))) ≡ Ready s
+nand_passed : (a b c : Bool) (base : ℕ) (s : Store) → (opened_by base (unless a refusal.Partitions (unless b refusal.Geometry (unless c refusal.Scratch (Ok s))))).number ≡ 0
+    → unless a refusal.Partitions (unless b refusal.Geometry (unless c refusal.Scratch (Ok s))) ≡ Ok s
 nand_passed true true true base s e = refl
 nand_passed true true false base s e = absurd (omega arith)
 nand_passed true false c base s e = absurd (omega arith)
@@ -253,14 +248,14 @@ module _ (g : Given) (w : World) (base stage device : ℕ) where
   nor_opening = opened_nor (length w.request) (length w.reply) (length w.chip) (length w.buffer) g.lists base (length w.scratch) stage device
 
   -- and of its storage
-  abbrev pub nor_opened : Opened
+  abbrev pub nor_opened : Result Store Refusal
   nor_opened = opens.opened_nor (length w.chip) (length w.buffer) g.lists base (length w.scratch) stage device
 
   nor_is : nor_opening ≡ cond (rooms_ok (length w.request) (length w.reply)) (opened_by base nor_opened) (refused 9)
   unfolding opened_nor
   nor_is = refl
 
-  nor_ready : (opened_by base nor_opened).number ≡ 0 → nor_opened ≡ Ready (nor_store (length w.chip) (end_of g.lists) stage device)
+  nor_ready : (opened_by base nor_opened).number ≡ 0 → nor_opened ≡ Ok (nor_store (length w.chip) (end_of g.lists) stage device)
   unfolding opens.opened_nor
   nor_ready e =
       nor_passed (leb 4096 (length w.buffer)) (nor_size (length w.chip)) (lists_ok g.lists) (scratch_ok base (length w.scratch)) base
@@ -269,7 +264,7 @@ module _ (g : Given) (w : World) (base stage device : ℕ) where
   -- an accepted opening of a NOR is that of its storage, with rooms of the right sizes
   pub nor_opening_is : nor_opening.number ≡ 0
       → (let s = nor_store (length w.chip) (end_of g.lists) stage device in
-      (nor_opening ≡ ready (fresh base s)) × (nor_opened ≡ Ready s) × (rooms_ok (length w.request) (length w.reply) ≡ true))
+      (nor_opening ≡ ready (fresh base s)) × (nor_opened ≡ Ok s) × (rooms_ok (length w.request) (length w.reply) ≡ true))
   nor_opening_is e =
       let z = ap (λ (o : Opening). o.number) (sym nor_is) ∙ e in
       let r = rooms_passed (rooms_ok (length w.request) (length w.reply)) base nor_opened z in
@@ -296,14 +291,14 @@ module _ (g : Given) (w : World) (base stage device : ℕ) where
     nand_opening = opened_nand (length w.request) (length w.reply) (length w.chip) page pages blocks (length g.lent.marks) capacity g.lists base (length w.scratch) stage device
 
     -- and of its storage
-    abbrev pub nand_opened : Opened
+    abbrev pub nand_opened : Result Store Refusal
     nand_opened = opens.opened_nand (length w.chip) page pages blocks (length g.lent.marks) capacity g.lists base (length w.scratch) stage device
 
     nand_is : nand_opening ≡ cond (rooms_ok (length w.request) (length w.reply)) (opened_by base nand_opened) (refused 9)
     unfolding opened_nand
     nand_is = refl
 
-    nand_ready : (opened_by base nand_opened).number ≡ 0 → nand_opened ≡ Ready (nand_store page pages blocks capacity stage device)
+    nand_ready : (opened_by base nand_opened).number ≡ 0 → nand_opened ≡ Ok (nand_store page pages blocks capacity stage device)
     unfolding opens.opened_nand
     nand_ready e =
         nand_passed (lists_ok g.lists) (numbers_ok page pages blocks (length w.chip) (length g.lent.marks) capacity) (scratch_ok base (length w.scratch)) base

@@ -1,6 +1,6 @@
 -- What a write keeps turn after turn, whatever its bytes are and whatever the chip does: scratch's base, scratch's length, and of the
 -- storage all that the storage's own calls keep (`Closed`). And the status of a turn is 0 or 1.
-use Rattle.std.specs.Prelude.{◌≡◌, ◌&&◌, leb, ltb, eqb, take}
+use Rattle.std.specs.Prelude.{◌≡◌, Option, None, Some, ◌&&◌, leb, ltb, eqb, take}
 use Rattle.std.proofs.Math.Path.{refl}
 use Rattle.std.proofs.Common.{◌∙◌}
 use Rattle.std.proofs.Math.Bool.{cond}
@@ -20,18 +20,11 @@ use Rattle.storage.specs.Partition.{Lists}
 use Rattle.storage_laws.specs.Bounds.{either}
 use Rattle.engine.specs.declared.exec.Group.{Group}
 use Rattle.engine.specs.declared.exec.Group.TheVariants as group
-use Rattle.engine.specs.declared.exec.Order.{Order}
-use Rattle.engine.specs.declared.exec.Order.TheVariants.{Bad, Run}
 use Rattle.engine.specs.declared.frame.Next.{Next}
 use Rattle.engine.specs.declared.frame.Next.TheVariants.{Refused, Send, Total}
-use Rattle.engine.specs.declared.command.Pair.{Pair}
-use Rattle.engine.specs.declared.command.Pair.TheVariants.{Cut, Both}
 use Rattle.engine.specs.declared.shell.Line.{Line}
 use Rattle.engine.specs.declared.shell.Line.TheVariants as line
-use Rattle.engine.specs.declared.shell.Text.{Text}
-use Rattle.engine.specs.declared.shell.Text.TheVariants as text
 use Rattle.engine.specs.declared.shell.Window.{Window}
-use Rattle.engine.specs.declared.shell.Window.TheVariants as window
 use Rattle.engine.specs.World.{Given, World, with_up, emptied, at_e, at_scratch, dev_of, at_dev, Out, out_of}
 use Rattle.engine.specs.Reply.{Answer, ok, fail, unsupported, odd, whether, Ran, ran, status_by, replied, ends}
 use Rattle.engine.specs.Command.{pair_of, inside, wrote, Wrote, write_by, write_of, read_of}
@@ -131,9 +124,9 @@ module _ (l : Lent) (P : Dev → Type 0) (c : Closed l P) where
   unfolding write_of
   write_length base x d = go (pair_of d)
     where
-      go : (p : Pair) → length (write_by base x d p).scratch ≡ length x
-      go Cut = refl
-      go (Both addr len) =
+      go : (p : Option (ℕ × ℕ)) → length (write_by base x d p).scratch ≡ length x
+      go None = refl
+      go (Some (addr, len)) =
           either (λ (r : Wrote). length r.scratch ≡ length x) (leb len (length d - 8) && inside base (length x) addr len) _ (wrote fail x)
           (length-sets x (addr - base) (take len (drop 8 d))) refl
 
@@ -168,9 +161,9 @@ module _ (l : Lent) (P : Dev → Type 0) (c : Closed l P) where
     unfolding read_fwc
     fwc_stays d = go (pair_of d)
       where
-        go : (p : Pair) → Ends w (read_fwc_by l w p)
-        go Cut = same w
-        go (Both off len) =
+        go : (p : Option (ℕ × ℕ)) → Ends w (read_fwc_by l w p)
+        go None = same w
+        go (Some (off, len)) =
             let r : List ℕ = replicate (min len 512) 0 in
             to_dev w w (same w) (reading l off r (dev_of w)).told.dev (c.read off r (dev_of w))
 
@@ -196,44 +189,44 @@ module _ (l : Lent) (P : Dev → Type 0) (c : Closed l P) where
     unfolding run_erase
     erase_stays start size = to_dev w v k (erasing l start size (dev_of v)).dev (c.erase start size (dev_of v))
 
-    write_stays : (off : ℕ) (x : Window) → Ends w (run_write l off x v)
+    write_stays : (off : ℕ) (x : Option Window) → Ends w (run_write l off x v)
     unfolding run_write
-    write_stays off window.Out = k
-    write_stays off (window.At place len) =
-        let t = from_scratch l off place len v.scratch (dev_of v) in
+    write_stays off None = k
+    write_stays off (Some x) =
+        let t = from_scratch l off x.place x.len v.scratch (dev_of v) in
         let u = at_dev t.dev v in
         let f = flushing l (dev_of u) in
-        let m = to_dev w v k t.dev (from_keeps off place len v.scratch (dev_of v)) in
-        either (Ends w) (eqb t.count len) (ran (whether (eqb f.status 0)) (at_dev f.dev u)) (ran fail u)
+        let m = to_dev w v k t.dev (from_keeps off x.place x.len v.scratch (dev_of v)) in
+        either (Ends w) (eqb t.count x.len) (ran (whether (eqb f.status 0)) (at_dev f.dev u)) (ran fail u)
         (to_dev w u m f.dev (c.flush (dev_of u))) m
 
-    take_stays : (off : ℕ) (x : Window) → Ends w (run_read l off x v)
+    take_stays : (off : ℕ) (x : Option Window) → Ends w (run_read l off x v)
     unfolding run_read
-    take_stays off window.Out = k
-    take_stays off (window.At place len) =
-        let s = into_scratch l off place len v.scratch (dev_of v) in
-        to_scratch w (at_dev s.told.dev v) (to_dev w v k s.told.dev (into_keeps off place len v.scratch (dev_of v))) s.room
-        (into_length l off place len v.scratch (dev_of v))
+    take_stays off None = k
+    take_stays off (Some x) =
+        let s = into_scratch l off x.place x.len v.scratch (dev_of v) in
+        to_scratch w (at_dev s.told.dev v) (to_dev w v k s.told.dev (into_keeps off x.place x.len v.scratch (dev_of v))) s.room
+        (into_length l off x.place x.len v.scratch (dev_of v))
 
-    boot_stays : (x : Window) → Ends w (run_boot x v)
+    boot_stays : (x : Option Window) → Ends w (run_boot x v)
     unfolding run_boot
-    boot_stays window.Out = k
-    boot_stays (window.At place len) =
-        let t = boot_table v.e.base place (block_size_of v.e.store) v.e.store.shape.capacity (take len (drop place v.scratch)) in
-        to_scratch w v k (sets v.scratch place t) (length-sets v.scratch place t)
+    boot_stays None = k
+    boot_stays (Some x) =
+        let t = boot_table v.e.base x.place (block_size_of v.e.store) v.e.store.shape.capacity (take x.len (drop x.place v.scratch)) in
+        to_scratch w v k (sets v.scratch x.place t) (length-sets v.scratch x.place t)
 
-    line_stays : (x : Line) → Ends w (run_by l v x)
-    line_stays line.Bad = k
-    line_stays line.Done = k
-    line_stays (line.Erase start size) = erase_stays start size
-    line_stays (line.Write off len addr) = write_stays off (window_of v.e.base (length v.scratch) addr len)
-    line_stays (line.Read off len addr) = take_stays off (window_of v.e.base (length v.scratch) addr len)
-    line_stays (line.Boot addr len) = boot_stays (window_of v.e.base (length v.scratch) addr len)
+    line_stays : (x : Option Line) → Ends w (run_by l v x)
+    line_stays None = k
+    line_stays (Some line.Done) = k
+    line_stays (Some (line.Erase start size)) = erase_stays start size
+    line_stays (Some (line.Write off len addr)) = write_stays off (window_of v.e.base (length v.scratch) addr len)
+    line_stays (Some (line.Read off len addr)) = take_stays off (window_of v.e.base (length v.scratch) addr len)
+    line_stays (Some (line.Boot addr len)) = boot_stays (window_of v.e.base (length v.scratch) addr len)
 
-  text_stays : (d : List ℕ) (w : World) (x : Text) → Ends w (shell_by l d w x)
+  text_stays : (d : List ℕ) (w : World) (x : Option ℕ) → Ends w (shell_by l d w x)
   unfolding run_line
-  text_stays d w text.Bad = same w
-  text_stays d w (text.Len n) = line_stays w _ (record { base = refl; scratch = refl; store = λ h. h }) (line_of (take n (drop 4 d)))
+  text_stays d w None = same w
+  text_stays d w (Some n) = line_stays w _ (record { base = refl; scratch = refl; store = λ h. h }) (line_of (take n (drop 4 d)))
 
   shell_stays : (d : List ℕ) (w : World) → Ends w (shell l d w)
   unfolding shell
@@ -341,9 +334,9 @@ module _ (g : Given) (P : Dev → Type 0) (c : Closed g.lent P) where
   unfolding execs
   execs_left w = go (order_of (take w.e.frame.total w.request))
     where
-      go : (o : Order) → Left P w (exec_by g w o)
-      go Bad = empty_left w
-      go (Run n m) = performs_left n m w
+      go : (o : Option (ℕ × ℕ)) → Left P w (exec_by g w o)
+      go None = empty_left w
+      go (Some (n, m)) = performs_left n m w
 
   -- from a world that differs in its frame alone
   from : (w v : World) (o : Out) → Stays P w v → Left P v o → Left P w o

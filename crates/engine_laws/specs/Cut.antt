@@ -37,8 +37,7 @@ use Rattle.engine.specs.Exec.{execs}
 use Rattle.engine.specs.Stream.{taken, fed_by, fed, finishes, streamed_by, streams}
 use Rattle.engine.specs.Frame.{ripens, heads, grown, fills, gathers}
 use Rattle.engine.specs.Feed.{want_by, want_of, turns, cut_of, then_by, feeds}
-use Rattle.engine.specs.declared.api.Opening.{Opening}
-use Rattle.engine.specs.Api.{fits, writes, fresh}
+use Rattle.engine.specs.Api.{fits, writes, fresh, Opening}
 use Rattle.engine.proofs.Feeds.{feed_step, feed_nil, then_go, then_stop, turn_frame, turn_stream}
 use Rattle.storage_laws.specs.Bounds.{either}
 use Rattle.engine_laws.specs.Carry.{turns_left, feeds_left}
@@ -58,7 +57,7 @@ grown_cut w p q = rw (sets_append p q w.request w.e.frame.len, length-append p q
 
 -- a frame that is not full yet
 pub fills_short : (g : Given) (w : World) → 0 < want_by 0 w.e.frame → fills g w ≡ out_of 0 w
-unfolding fills ripens want_by
+unfolding fills ripens
 fills_short g w = go (eqb w.e.frame.total 0)
   where
     go : (t : Bool) → 0 < cond t (16 - w.e.frame.len) (w.e.frame.total - w.e.frame.len)
@@ -70,7 +69,6 @@ abbrev pub longer : ℕ → Frame → Frame
 longer m f = record { len = f.len + m; total = f.total }
 
 pub want_less : (f : Frame) (m : ℕ) → want_by 0 (longer m f) ≡ want_by 0 f - m
-unfolding want_by
 want_less f m = go (eqb f.total 0)
   where
     go : (t : Bool) → cond t (16 - (f.len + m)) (f.total - (f.len + m)) ≡ cond t (16 - f.len) (f.total - f.len) - m
@@ -78,7 +76,6 @@ want_less f m = go (eqb f.total 0)
     go false = omega arith
 
 pub want_at : (left : ℕ) (f : Frame) → (left ≡ 0 → ⊥) → want_by left f ≡ left
-unfolding want_by
 want_at left f h = ap (λ (t : Bool). cond t (cond (eqb f.total 0) (16 - f.len) (f.total - f.len)) left) (ne_eqb left 0 h)
 
 -- ---- a turn in two

@@ -43,7 +43,6 @@ module _ (h s : List ℕ) (e : length h ≡ 16) where
 
   -- and what they ask for
   pub next_front : next_of (h ++ s) ≡ next_of h
-  unfolding next_of
   next_front = ap next_by parsed_front
 
 -- demand 3, 'the next write's bytes start a frame': with k bytes gathered, and the rest of the header laid behind them, what is judged

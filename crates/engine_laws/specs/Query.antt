@@ -2,22 +2,20 @@
 -- is answered at once, and leaves all but the reply, the place in it and the front of the request room as they were (`query_alone`).
 -- So such a write hangs on the record, the table text and the two rooms, and touches neither the storage nor scratch.
 use Rattle.std.proofs.Math.Path.{◌≡◌, refl, ap, subst}
-use Rattle.std.proofs.Common.{sym, ◌∙◌, arith}
-use Rattle.std.specs.Prelude.{Bool, ◌&&◌, ℕ, length}
+use Rattle.std.proofs.Common.{Option, None, Some, sym, ◌∙◌, arith}
+use Rattle.std.specs.Prelude.{Bool, ◌&&◌, ◌||◌, not, ℕ, length}
 use Rattle.std.proofs.Math.Bool.{true, false, cond}
 use mathlib.Core.List.{List, [], append-nil}
 use borrow.Author.Tests.{eqb-true}
 use Rattle.std.proofs.Math.Dec.{eqb}
 use Rattle.std.proofs.lemmas.List.Edits.{sets}
 use Rattle.wire.specs.Bytes.{laid}
-use Rattle.wire.specs.Header.{parsed}
+use Rattle.wire.specs.Header.{request_of, parsed}
 use Rattle.wire.specs.declared.header.Header.{Header}
-use Rattle.wire.specs.declared.header.Header.TheVariants as header
 use Rattle.storage.specs.Open.{one_of}
 use Rattle.storage.proofs.Fold.{false_true}
 use Rattle.engine.specs.declared.exec.Group.{Group}
 use Rattle.engine.specs.declared.exec.Group.TheVariants as group
-use Rattle.engine.specs.declared.short.Alone.TheVariants.{Other, Query}
 use Rattle.engine.specs.World.{Given, World, with_flags, emptied, at_e, at_reply}
 use Rattle.engine.specs.Reply.{Answer, Ran, ran, ends, ended_by, placed, ends_by}
 use Rattle.engine.specs.Command.{is_query, plain}
@@ -25,8 +23,8 @@ use Rattle.engine.specs.Exec.{group_of, runs_by, runs, begun, answered}
 use Rattle.engine.specs.Feed.{feeds}
 use Rattle.engine.specs.Api.{fits, writes}
 use Rattle.engine.specs.Short.{query_in, alone_by, alone_of, answer_of, answers}
-use Rattle.engine.proofs.Execs.{looks}
-use Rattle.engine.proofs.Replies.{laid_sets, Brief, ends_is}
+use Rattle.storage.proofs.Fold.{laid_sets}
+use Rattle.engine.proofs.Replies.{Brief, ends_is}
 use Rattle.engine.proofs.Tidies.{runs_tidy}
 use Rattle.engine_laws.specs.Bounds.{in_bounds, write_feeds}
 use Rattle.engine_laws.specs.Whole.{at_request, emptied_at, between_is, frame_done}
@@ -37,50 +35,54 @@ use Rattle.engine_laws.specs.Whole.{at_request, emptied_at, between_is, frame_do
 pub record Asks (bytes : List ℕ) (c : ℕ) : Type 0 where
   pub status : ℕ
   pub sixteen : length bytes ≡ 16
-  pub says : parsed bytes ≡ header.Request c status 0
+  pub says : parsed bytes ≡ request_of c status 0
   pub query : is_query c ≡ true
   pub kind : group_of c ≡ group.Plain
 
 module _ (c : ℕ) where
   -- the group of a query that is answered so is that of the plain commands
-  plain_group : (d : ℕ) (x : Group) → query_in d x ≡ Query c → (d ≡ c) × (x ≡ group.Plain)
+  plain_group : (d : ℕ) (x : Group) → query_in d x ≡ Some c → (d ≡ c) × (x ≡ group.Plain)
   plain_group d group.Memory e = absurd (let z : ◌≡◌ {A = ℕ} 0 1 = cc in omega arith)
   plain_group d group.Shell e = absurd (let z : ◌≡◌ {A = ℕ} 0 1 = cc in omega arith)
   plain_group d group.Storage e = absurd (let z : ◌≡◌ {A = ℕ} 0 1 = cc in omega arith)
   plain_group d group.Plain e = (cc, refl)
 
   -- both tests of a header hold
-  tests : (n d : ℕ) (a b : Bool) → eqb n 0 ≡ a → is_query d ≡ b → cond (a && b) (query_in d (group_of d)) Other ≡ Query c
-      → (n ≡ 0) × (is_query d ≡ true) × (query_in d (group_of d) ≡ Query c)
+  tests : (n d : ℕ) (a b : Bool) → eqb n 0 ≡ a → is_query d ≡ b → cond (a && b) (query_in d (group_of d)) None ≡ Some c
+      → (n ≡ 0) × (is_query d ≡ true) × (query_in d (group_of d) ≡ Some c)
   tests n d true true p q e = (eqb-true n 0 p, q, e)
   tests n d true false p q e = absurd (let z : ◌≡◌ {A = ℕ} 0 1 = cc in omega arith)
   tests n d false b p q e = absurd (let z : ◌≡◌ {A = ℕ} 0 1 = cc in omega arith)
 
   -- the inversion of `alone_of`
-  pub asks : (bytes : List ℕ) → alone_of bytes ≡ Query c → Asks bytes c
-  unfolding alone_of
+  pub asks : (bytes : List ℕ) → alone_of bytes ≡ Some c → Asks bytes c
   asks bytes = go (eqb (length bytes) 16) refl (parsed bytes) refl
     where
-      go : (t : Bool) → eqb (length bytes) 16 ≡ t → (h : Header) → parsed bytes ≡ h → cond t (alone_by h) Other ≡ Query c → Asks bytes c
+      go : (t : Bool) → eqb (length bytes) 16 ≡ t → (h : Option Header) → parsed bytes ≡ h → cond t (alone_by h) None ≡ Some c → Asks bytes c
       go false k h p e = absurd (let z : ◌≡◌ {A = ℕ} 0 1 = cc in omega arith)
-      go true k header.Bad p e = absurd (let z : ◌≡◌ {A = ℕ} 0 1 = cc in omega arith)
-      go true k (header.Request d s n) p e =
-          let t = tests n d (eqb n 0) (is_query d) refl refl e in
-          let x = plain_group d (group_of d) t.2 in
+      go true k None p e = absurd (let z : ◌≡◌ {A = ℕ} 0 1 = cc in omega arith)
+      go true k (Some h) p e =
+          let t = tests h.length h.command (eqb h.length 0) (is_query h.command) refl refl e in
+          let x = plain_group h.command (group_of h.command) t.2 in
           record {
-            status = s;
+            status = h.status;
             sixteen = eqb-true (length bytes) 16 k;
-            says = p ∙ ap (λ (m : ℕ). header.Request d s m) t.0 ∙ ap (λ (b : ℕ). header.Request b s 0) x.0;
+            says = p ∙ ap (λ (m : ℕ). request_of h.command h.status m) t.0 ∙ ap (λ (b : ℕ). request_of b h.status 0) x.0;
             query = subst (λ (b : ℕ). is_query b ≡ true) x.0 t.1;
             kind = subst (λ (b : ℕ). group_of b ≡ group.Plain) x.0 x.1;
           }
 
   -- SEND_FWC_DATA does not only look
   not_send : is_query c ≡ true → c ≡ 0x12 → ⊥
-  unfolding is_query one_of
+  unfolding one_of
   not_send h e = false_true (ap is_query (sym e) ∙ h)
 
 -- ---- what is answered
+
+-- a command that only looks leaves `host_upgrading`
+looks : (c : ℕ) (b : Bool) → is_query c ≡ true → (b || not (is_query c)) ≡ b
+looks c true h = refl
+looks c false h = rw h
 
 module _ (g : Given) (w : World) (bytes : List ℕ) (c : ℕ) (f : fits g w ≡ true) (l : w.e.frame.len ≡ 0) (t : w.e.frame.total ≡ 0) (z : w.e.up.left ≡ 0)
     (a : Asks bytes c) where
@@ -101,7 +103,7 @@ module _ (g : Given) (w : World) (bytes : List ℕ) (c : ℕ) (f : fits g w ≡ 
       ap (λ (b : Bool). at_e (emptied (with_flags b w.e.asked w.e)) asked) (looks c w.e.upgrading a.query) ∙ between asked l t
 
   laid_is : sets w.request 0 bytes ≡ laid w.request 0 bytes
-  laid_is = sym (laid_sets w.request 0 bytes (omega (arith, a.sixteen, (in_bounds g w f).fit.mid.request)))
+  laid_is = sym (laid_sets 0 w.request bytes (omega (arith, a.sixteen, (in_bounds g w f).fit.mid.request)))
 
   runs_is : runs g c [] asked ≡ ran told asked
   unfolding runs
@@ -121,7 +123,7 @@ module _ (g : Given) (w : World) (bytes : List ℕ) (c : ℕ) (f : fits g w ≡ 
   brief = subst (λ (r : Ran). Brief r.answer) runs_is (runs_tidy g c [] asked).brief
 
   answer_is : ends_by c (ended_by told) (at_reply (placed told w.reply) asked) ≡ answers w bytes (answer_of c w.e g.table w.reply)
-  unfolding ends_by answer_of
+  unfolding answer_of
   answer_is = refl
 
   asked_alone : writes g w bytes ≡ answers w bytes (answer_of c w.e g.table w.reply)
@@ -129,6 +131,6 @@ module _ (g : Given) (w : World) (bytes : List ℕ) (c : ℕ) (f : fits g w ≡ 
 
 -- THE LAW: between frames, a query alone in a write is answered at once, and all but its reply and the request room's front is as it was
 pub query_alone : (g : Given) (w : World) (bytes : List ℕ) (c : ℕ) → fits g w ≡ true → w.e.frame.len ≡ 0 → w.e.frame.total ≡ 0 → w.e.up.left ≡ 0
-    → alone_of bytes ≡ Query c
+    → alone_of bytes ≡ Some c
     → writes g w bytes ≡ answers w bytes (answer_of c w.e g.table w.reply)
 query_alone g w bytes c f l t z q = asked_alone g w bytes c f l t z (asks c bytes q)

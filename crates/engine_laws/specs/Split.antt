@@ -181,7 +181,6 @@ module _ (l : Lent) (a : ℕ) (p q : List ℕ) (d : Dev) (s : Steady l d) (c : a
 -- ---- the counts of a stream in two
 
 burn_zero : (old count n : ℕ) → burn_by old count n ≡ 0 → count ≡ n
-unfolding burn_by
 burn_zero old count n = go (eqb count n) (eqb old 0) refl refl
   where
     go : (t u : Bool) → eqb count n ≡ t → eqb old 0 ≡ u → cond t old (cond u 1 old) ≡ 0 → count ≡ n
@@ -190,7 +189,6 @@ burn_zero old count n = go (eqb count n) (eqb old 0) refl refl
     go false false e f h = absurd (eqb-false old 0 f h)
 
 burn_cut : (old m k n : ℕ) → burn_by old (m + k) (m + n) ≡ burn_by (burn_by old m m) k n
-unfolding burn_by
 burn_cut old m k n = rw (eq-eqb m m refl) (go (eqb k n) refl)
   where
     go : (t : Bool) → eqb k n ≡ t → cond (eqb (m + k) (m + n)) old (cond (eqb old 0) 1 old) ≡ cond (eqb k n) old (cond (eqb old 0) 1 old)

@@ -3,7 +3,7 @@
 -- status 0, and leaves the update record, the waiting reply, scratch and the storage as they were.
 use Rattle.std.specs.Prelude.{◌≡◌, Bool, ℕ, ◌+◌, ◌-◌, ◌%◌, ◌^◌, ◌≤◌, ◌<◌, leb, ltb, take, drop}
 use Rattle.std.proofs.Math.Path.{refl, sym, ap}
-use Rattle.std.proofs.Common.{◌∙◌, le-leb, eqb-true, ne_eqb, lt-ltb, le-ltb, ltb-true, ltb-false, drop_of_length-le, take-append-drop, take_all, take_at, drop_at}
+use Rattle.std.proofs.Common.{Option, None, Some, ◌∙◌, le-leb, eqb-true, ne_eqb, lt-ltb, le-ltb, ltb-true, ltb-false, drop_of_length-le, take-append-drop, take_all, take_at, drop_at}
 use Rattle.std.proofs.Math.Bool.{true, false, cond}
 use mathlib.Core.List.{List, [], ◌∷◌, ◌++◌, append-nil, append_assoc}
 use native.Mathlib.Omega.{arith}
@@ -12,15 +12,13 @@ use Rattle.std.proofs.Math.ListN.{length, length-append}
 use Rattle.std.proofs.Math.Seq.{sets, length-sets}
 use Rattle.std.proofs.lemmas.List.{take-append-le, drop-append-le}
 use Rattle.std.proofs.lemmas.List.Edits.{sets-eq}
-use Rattle.wire.specs.Header.{parsed}
+use Rattle.wire.specs.Header.{request_of, parsed}
 use Rattle.wire.specs.declared.header.Header.{Header}
-use Rattle.wire.specs.declared.header.Header.TheVariants as header
-use Rattle.engine.specs.declared.exec.Order.TheVariants.{Bad, Run}
 use Rattle.engine.specs.declared.frame.Next.TheVariants.{Refused, Send, Total}
 use Rattle.engine.specs.declared.types.Frame.{Frame}
 use Rattle.engine.specs.declared.types.Said.{Said}
 use Rattle.engine.specs.World.{Given, World, world, with_frame, with_said, emptied, at_e, Out, out_of}
-use Rattle.engine.specs.Exec.{runs, order_by, order_of, begun, answered, performs, exec_by, execs}
+use Rattle.engine.specs.Exec.{runs, order_by, begun, answered, performs, exec_by, execs}
 use Rattle.engine.specs.Frame.{next_by, next_of, framed, ripens, headed_by, heads, grown, fills, gathers}
 use Rattle.engine.specs.Feed.{want_by, want_of, turns, cut_of, then_by, feeds}
 use Rattle.engine.proofs.Feeds.{feed_step, feed_nil, turn_frame}
@@ -83,7 +81,6 @@ module _ (g : Given) (w : World) (z : w.e.up.left ≡ 0) (h : List ℕ) (n : len
       ap (λ (b : Bool). cond b (out_of 0 (grown (emptied_at w) h)) (heads g (grown (emptied_at w) h))) (le-ltb (0 + length h) 16 (omega arith))
 
   want_header : want_by 0 (emptied_at w).e.frame ≡ 16
-  unfolding want_by
   want_header = refl
 
   -- between frames sixteen bytes are a header, and it is judged
@@ -119,9 +116,8 @@ module _ (room h m : List ℕ) (n : length h ≡ 16) (r : 16 + length m ≤ leng
       ∙ ap (take (length m)) (drop_at h (m ++ rest) 16 n) ∙ take_at m rest (length m) refl
 
 module _ (g : Given) (w : World) (z : w.e.up.left ≡ 0) (h m : List ℕ) (n : length h ≡ 16) (r : 16 + length m ≤ length w.request) (c s : ℕ)
-    (p : parsed h ≡ header.Request c s (length m)) (o : c ≡ 0x12 → ⊥) (t : length m ≤ 8192) where
+    (p : parsed h ≡ request_of c s (length m)) (o : c ≡ 0x12 → ⊥) (t : length m ≤ 8192) where
   next_is : next_of h ≡ Total (16 + length m)
-  unfolding next_of
   next_is =
       ap next_by p ∙ ap (λ (b : Bool). cond b (Send (length m % 2 ^ 32)) (cond (leb (length m) 8192) (Total (16 + length m)) Refused)) (ne_eqb c 0x12 o)
       ∙ ap (λ (b : Bool). cond b (Total (16 + length m)) Refused) (le-leb (length m) 8192 t)
@@ -142,7 +138,6 @@ module _ (g : Given) (w : World) (z : w.e.up.left ≡ 0) (h m : List ℕ) (n : l
   header_waits i = header_is ∙ ap (λ (b : Bool). cond b (out_of 0 headed) (execs g headed)) (lt-ltb 16 (16 + length m) (omega arith))
 
   want_data : want_by 0 headed.e.frame ≡ length m
-  unfolding want_by
   want_data = ap (λ (b : Bool). cond b (16 - 16) (16 + length m - 16)) (ne_eqb (16 + length m) 0 (λ e. omega arith)) ∙ omega arith
 
   ripe_execs : ripens g ripe ≡ execs g ripe
@@ -154,13 +149,13 @@ module _ (g : Given) (w : World) (z : w.e.up.left ≡ 0) (h m : List ℕ) (n : l
   fills_data = ap (λ (b : Bool). cond b (cond (ltb (16 + length m) 16) (out_of 0 ripe) (heads g ripe)) (ripens g ripe)) (ne_eqb (16 + length m) 0 (λ e. omega arith))
 
   execs_done : execs g ripe ≡ answered c (runs g c m (at_e (begun c w.e) (at_request (roomed w.request h m) w)))
-  unfolding execs order_of performs
+  unfolding execs performs
   execs_done =
       let q = roomed w.request h m in
       let l : length (h ++ m) ≡ 16 + length m = length-append h m ∙ ap (λ (k : ℕ). k + length m) n in
       ap (λ (f : List ℕ). exec_by g ripe (order_by f (parsed f))) (roomed_front w.request h m n r)
-      ∙ ap (λ (x : Header). exec_by g ripe (order_by (h ++ m) x)) (parsed_front h m n ∙ p)
-      ∙ ap (λ (b : Bool). exec_by g ripe (cond b (Run c (length m)) Bad)) (le-leb (16 + length m) (length (h ++ m)) (omega arith))
+      ∙ ap (λ (x : Option Header). exec_by g ripe (order_by (h ++ m) x)) (parsed_front h m n ∙ p)
+      ∙ ap (λ (b : Bool). exec_by g ripe (cond {A = Option (ℕ × ℕ)} b (Some (c, length m)) None)) (le-leb (16 + length m) (length (h ++ m)) (omega arith))
       ∙ ap (λ (d : List ℕ). answered c (runs g c d (at_e (begun c w.e) (at_request q w)))) (roomed_data w.request h m n r)
 
   -- the data of a frame, or none
@@ -202,14 +197,13 @@ Gathers g a w = (f : Frame) × (q : List ℕ) × ((s : Said) → feeds g (emptie
 module _ (g : Given) (w : World) (z : w.e.up.left ≡ 0) where
   -- a part of a header is
   pub header_front : (a : List ℕ) → length a < 16 → Gathers g a w
-  unfolding want_by
   header_front [] i = (record { len = 0; total = 0 }, w.request, λ s. feed_nil g (emptied_at (at_said s w)))
   header_front (x ∷ xs) i =
       let a = x ∷ xs in
       (record { len = 0 + length a; total = 0 }, sets w.request 0 a, λ s. gathers_on g (emptied_at (at_said s w)) a z (omega arith) i)
 
   module _ (h m : List ℕ) (n : length h ≡ 16) (r : 16 + length m ≤ length w.request) (c k : ℕ)
-      (p : parsed h ≡ header.Request c k (length m)) (o : c ≡ 0x12 → ⊥) (t : length m ≤ 8192) where
+      (p : parsed h ≡ request_of c k (length m)) (o : c ≡ 0x12 → ⊥) (t : length m ≤ 8192) where
     data_front : (a b : List ℕ) → a ++ b ≡ m → 0 < length b → (s : Said)
         → feeds g (headed g (at_said s w) z h m n r c k p o t) a ≡ gathered (record { len = 16 + length a; total = 16 + length m }) (roomed w.request h a) (at_said s w)
     data_front [] b e i s = feed_nil g (headed g (at_said s w) z h m n r c k p o t)

@@ -1,48 +1,45 @@
-// The pieces of a line.
-use std::io;
-use std::io::Write;
+// What is printed of how a call ended. A type for each, since the same Result is printed in three ways.
+use std::fmt;
+use storage::types::CallError;
 
-// The number of the record and a word.
-pub fn line<W: Write>(to: &mut W, n: u64, word: &[u8]) -> io::Result<()> {
-    record::decimal(to, n)?;
-    record::text(to, b" ")?;
-    record::text(to, word)
-}
+/// A call that answers nothing but whether it failed.
+#[derive(Clone, Copy, Debug)]
+pub struct Ended(pub Result<(), CallError>);
 
-// A space and a number.
-pub fn and_number<W: Write>(to: &mut W, n: u64) -> io::Result<()> {
-    record::text(to, b" ")?;
-    record::decimal(to, n)
-}
-
-// The end of a line.
-pub fn end_line<W: Write>(to: &mut W) -> io::Result<()> {
-    record::text(to, b"\n")
-}
-
-// A line that ends with the status of a call.
-pub fn told_status<W: Write>(to: &mut W, n: u64, word: &[u8], status: u8) -> io::Result<()> {
-    line(to, n, word)?;
-    if status == 0 {
-        return record::text(to, b" ok\n");
+impl fmt::Display for Ended {
+    fn fmt<W: fmt::Write>(&self, f: &mut fmt::Formatter<W>) -> fmt::Result {
+        match self.0 {
+            Ok(()) => write!(f, "ok"),
+            Err(CallError::Failed) => write!(f, "fail"),
+            Err(CallError::Refused) => write!(f, "refused 9"),
+        }
     }
-    if status == 1 {
-        return record::text(to, b" fail\n");
-    }
-    record::text(to, b" refused 9\n")
 }
 
-// A line up to a count, or to the refusal; bytes may follow.
-pub fn told_count<W: Write>(
-    to: &mut W,
-    n: u64,
-    word: &[u8],
-    status: u8,
-    count: usize,
-) -> io::Result<()> {
-    line(to, n, word)?;
-    if status == 9 {
-        return record::text(to, b" refused 9");
+/// A call that moves bytes: how many. One that failed answers for none.
+#[derive(Clone, Copy, Debug)]
+pub struct Moved(pub Result<usize, CallError>);
+
+impl fmt::Display for Moved {
+    fn fmt<W: fmt::Write>(&self, f: &mut fmt::Formatter<W>) -> fmt::Result {
+        match self.0 {
+            Ok(count) => write!(f, "{count}"),
+            Err(CallError::Failed) => write!(f, "0"),
+            Err(CallError::Refused) => write!(f, "refused 9"),
+        }
     }
-    and_number(to, count as u64)
+}
+
+/// A write to an engine, by its status.
+#[derive(Clone, Copy, Debug)]
+pub struct Status(pub Result<(), CallError>);
+
+impl fmt::Display for Status {
+    fn fmt<W: fmt::Write>(&self, f: &mut fmt::Formatter<W>) -> fmt::Result {
+        match self.0 {
+            Ok(()) => write!(f, "0"),
+            Err(CallError::Failed) => write!(f, "1"),
+            Err(CallError::Refused) => write!(f, "refused 9"),
+        }
+    }
 }

@@ -1,30 +1,26 @@
-// The body of an opening (kinds 16 and 17): its numbers, its shape and the runs of bytes in it.
-ghost use Rattle.std.specs.Prelude.{◌≤◌};
+// The body of an opening (kinds 16 and 17): its numbers, and the runs of bytes behind them.
+use engine::given::Given;
+use engine::rooms::Rooms;
+use record::parts::{byte, cut, first, from, upto};
+use storage::lent::{Lent, Partitions};
+use storage::types::{Board, Geometry, Kind};
+use wire::bytes::{put, u16_at, u32_at, u64_at};
 
-use crate::parts::{byte, from, half, upto};
-use wire::bytes::{u16_at, u32_at, u64_at};
-
-// The numbers of an opening's body; the last seven say how much of each list and of each run of bytes
-// stands behind them.
-#[derive(Clone, Copy)]
+/// The numbers of an opening's body: the device, what the chip is filled with, how much of each room is lent, and
+/// last how much of each list and of each run of bytes stands behind them.
+#[derive(Clone, Copy, Debug, PartialEq, Eq)]
 pub struct Opening {
-    pub device: u8,
+    pub device: Kind,
     pub fill: u8,
     pub step: u8,
-    pub stage: u8,
-    pub id: u32,
+    pub board: Board,
+    pub geometry: Geometry,
     pub chip: usize,
-    pub page: u64,
-    pub pages: u64,
-    pub blocks: u64,
-    pub figure: u64,
     pub buffer: usize,
-    pub base: u32,
     pub scratch: usize,
     pub request: usize,
     pub reply: usize,
     pub sent: usize,
-    pub modes: u16,
     pub offsets: usize,
     pub sizes: usize,
     pub lens: usize,
@@ -34,106 +30,160 @@ pub struct Opening {
     pub table: usize,
 }
 
-// The numbers as they stand in the body, whatever its length.
-pub fn opening_of(body: &[u8]) -> Opening {
-    Opening {
-        device: byte(body, 0),
-        fill: byte(body, 1),
-        step: byte(body, 2),
-        stage: byte(body, 3),
-        id: u32_at(body, 4),
-        chip: u32_at(body, 8) as usize,
-        page: u32_at(body, 12) as u64,
-        pages: u32_at(body, 16) as u64,
-        blocks: u32_at(body, 20) as u64,
-        figure: u64_at(body, 24),
-        buffer: u32_at(body, 32) as usize,
-        base: u32_at(body, 36),
-        scratch: u32_at(body, 40) as usize,
-        request: half(body, 44),
-        reply: half(body, 46),
-        sent: half(body, 48),
-        modes: u16_at(body, 50),
-        offsets: half(body, 52),
-        sizes: half(body, 54),
-        lens: half(body, 56),
-        names: half(body, 58),
-        marks: half(body, 60),
-        faults: half(body, 62),
-        table: half(body, 64),
+/// What stands behind the numbers: three lists of eight-byte numbers, and four runs of bytes.
+#[derive(Clone, Copy, Debug)]
+pub struct Runs<'a> {
+    pub offsets: &'a [u8],
+    pub sizes: &'a [u8],
+    pub lens: &'a [u8],
+    pub names: &'a [u8],
+    pub marks: &'a [u8],
+    pub faults: &'a [u8],
+    pub table: &'a [u8],
+}
+
+/// An opening's body as it is kept: its bytes, and the numbers of its three lists.
+#[derive(Drop)]
+pub struct Body<'a> {
+    pub bytes: &'a mut [u8],
+    pub offsets: &'a mut [u64],
+    pub sizes: &'a mut [u64],
+    pub lens: &'a mut [u64],
+}
+
+// The eight-byte numbers of a run.
+fn numbers(to: &mut [u64], run: &[u8]) {
+    for (number, bytes) in to.iter_mut().zip(run.chunks(8)) {
+        *number = u64_at(bytes, 0);
     }
 }
 
-// Where the names start in an opening's body: behind its 66 bytes and three lists of eight-byte numbers.
-pub fn names_at(body: &[u8]) -> usize
-    ensures { result ≤ 1572906 }
-{
-    66 + 8 * (half(body, 52) + half(body, 54) + half(body, 56))
+impl Body<'_> {
+    /// Keeps the body of an opening.
+    pub fn keep(&mut self, opening: &Opening, bytes: &[u8]) {
+        put(self.bytes, 0, bytes);
+        let runs = opening.runs(bytes);
+        numbers(self.offsets, runs.offsets);
+        numbers(self.sizes, runs.sizes);
+        numbers(self.lens, runs.lens);
+    }
 }
 
-// How long an opening's body has to be.
-pub fn announced(body: &[u8]) -> usize {
-    names_at(body) + half(body, 58) + half(body, 60) + half(body, 62) + half(body, 64)
+// The kind of device. No TryFrom: the enum is storage's, and the numbers are this program's.
+fn device(body: &[u8]) -> Option<Kind> {
+    match byte(body, 0) {
+        0 => Some(Kind::Nor),
+        1 => Some(Kind::Nand),
+        _ => None,
+    }
 }
 
-// Is the body of an opening what it announces, and within the limits.
-pub fn opening_ok(body: &[u8], o: Opening) -> bool {
-    if body.len() != announced(body) {
-        return false;
+impl Opening {
+    /// The numbers of a body that is what it announces, and within the limits.
+    pub fn parse(body: &[u8]) -> Option<Opening> {
+        let opening = Opening {
+            device: device(body)?,
+            fill: byte(body, 1),
+            step: byte(body, 2),
+            board: Board {
+                base: u32_at(body, 36),
+                stage: byte(body, 3),
+                device: u32_at(body, 4),
+            },
+            geometry: Geometry {
+                page: u64::from(u32_at(body, 12)),
+                pages: u64::from(u32_at(body, 16)),
+                blocks: u64::from(u32_at(body, 20)),
+                capacity: u64_at(body, 24),
+            },
+            chip: u32_at(body, 8) as usize,
+            buffer: u32_at(body, 32) as usize,
+            scratch: u32_at(body, 40) as usize,
+            request: usize::from(u16_at(body, 44)),
+            reply: usize::from(u16_at(body, 46)),
+            sent: usize::from(u16_at(body, 48)),
+            offsets: usize::from(u16_at(body, 52)),
+            sizes: usize::from(u16_at(body, 54)),
+            lens: usize::from(u16_at(body, 56)),
+            names: usize::from(u16_at(body, 58)),
+            marks: usize::from(u16_at(body, 60)),
+            faults: usize::from(u16_at(body, 62)),
+            table: usize::from(u16_at(body, 64)),
+        };
+        // 66 bytes of numbers, the lists and the runs
+        let words = opening.offsets + opening.sizes + opening.lens;
+        let bytes = opening.names + opening.marks + opening.faults + opening.table;
+        let good = body.len() == 66 + 8 * words + bytes
+            && u16_at(body, 50) == 0
+            && opening.chip <= 1048576
+            && opening.buffer <= 1048576
+            && opening.scratch <= 65536
+            && opening.request <= 16384
+            && opening.reply <= 16384
+            && opening.sent <= 16384;
+        if good { Some(opening) } else { None }
     }
-    if 1 < o.device {
-        return false;
-    }
-    if 1048576 < o.chip {
-        return false;
-    }
-    if 1048576 < o.buffer {
-        return false;
-    }
-    if 65536 < o.scratch {
-        return false;
-    }
-    if 16384 < o.request {
-        return false;
-    }
-    if 16384 < o.reply {
-        return false;
-    }
-    if 16384 < o.sent {
-        return false;
-    }
-    o.modes == 0
-}
 
-// The names of an opening.
-pub fn names_of(body: &[u8], o: Opening) -> &[u8] {
-    upto(from(body, names_at(body)), o.names)
-}
-
-// The marks, behind the names.
-pub fn marks_of(body: &[u8], o: Opening) -> &[u8] {
-    upto(from(body, names_at(body) + half(body, 58)), o.marks)
-}
-
-// The faults, behind the marks.
-pub fn faults_of(body: &[u8], o: Opening) -> &[u8] {
-    let at = names_at(body) + half(body, 58) + half(body, 60);
-    upto(from(body, at), o.faults)
-}
-
-// The table text, behind the faults.
-pub fn table_of(body: &[u8], o: Opening) -> &[u8] {
-    let at = names_at(body) + half(body, 58) + half(body, 60) + half(body, 62);
-    upto(from(body, at), o.table)
-}
-
-// The length of the buffer that is lent: a NAND's is never under 4,096.
-pub fn buffer_len(o: Opening) -> usize {
-    if o.device == 0 {
-        return o.buffer;
+    /// What stands behind the numbers of this opening's body.
+    pub fn runs<'a>(&self, body: &'a [u8]) -> Runs<'a> {
+        let rest = from(body, 66);
+        let (offsets, rest) = cut(rest, self.offsets.saturating_mul(8));
+        let (sizes, rest) = cut(rest, self.sizes.saturating_mul(8));
+        let (lens, rest) = cut(rest, self.lens.saturating_mul(8));
+        let (names, rest) = cut(rest, self.names);
+        let (marks, rest) = cut(rest, self.marks);
+        let (faults, rest) = cut(rest, self.faults);
+        let (table, _) = cut(rest, self.table);
+        Runs {
+            offsets,
+            sizes,
+            lens,
+            names,
+            marks,
+            faults,
+            table,
+        }
     }
-    if o.buffer < 4096 {
-        return 4096;
+
+    /// What is lent and never changed, of the opening's body.
+    pub fn given<'a>(&self, body: &'a Body<'_>) -> Given<'a> {
+        let runs = self.runs(body.bytes);
+        Given {
+            lent: Lent {
+                faults: runs.faults,
+                marks: runs.marks,
+            },
+            partitions: Partitions {
+                offsets: upto(body.offsets, self.offsets),
+                sizes: upto(body.sizes, self.sizes),
+                lens: upto(body.lens, self.lens),
+                names: runs.names,
+            },
+            table: runs.table,
+        }
     }
-    o.buffer
+
+    /// As much of each room as is lent.
+    pub fn rooms<'a>(&self, rooms: &'a mut Rooms<'_>) -> Rooms<'a> {
+        let Rooms {
+            reply,
+            chip,
+            buffer,
+            scratch,
+        } = rooms;
+        Rooms {
+            reply: first(reply, self.reply),
+            chip: first(chip, self.chip),
+            buffer: first(buffer, self.buffer_len()),
+            scratch: first(scratch, self.scratch),
+        }
+    }
+
+    /// The length of the buffer that is lent: a NAND's is never under 4,096.
+    pub fn buffer_len(&self) -> usize {
+        match self.device {
+            Kind::Nor => self.buffer,
+            Kind::Nand => self.buffer.max(4096),
+        }
+    }
 }

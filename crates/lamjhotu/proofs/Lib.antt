@@ -3,3 +3,4 @@ pub mod States
 pub mod Exports
 pub mod Shorts
 pub mod Pieces
+pub mod Fronts

@@ -2,44 +2,44 @@
 -- bounds whose frame is as long as its total is between frames (`idle-so`), so that a query alone is the answer that `query_alone` of
 -- engine_laws gives (`query_told`); and a read is the next bytes of the reply (`next_told`, `read_told`).
 use mathlib.Core.Path.{◌≡◌, refl, sym, ap, ◌∙◌}
+use Rattle.std.specs.Prelude.{Some, Result, Ok, Err}
 use mathlib.Core.Bool.{Bool, true, false, ◌&&◌, cond}
-use mathlib.Core.List.{List}
+use mathlib.Core.List.{List, ◌++◌}
 use Prim.Native.Nat.{ℕ, zero, suc, ◌+◌, ◌-◌, ◌^◌, ◌≤◌, min}
 use native.Mathlib.Omega.{arith}
-use borrow.Author.Tests.{le-leb, leb-true, eqb-true, eqb-false, ne_eqb}
-use lib.Dec.{leb, eqb}
-use lib.ListN.{length, get_or, take, drop, length-take}
+use Rattle.std.proofs.lemmas.Bool.{true≢false, cond-true, and_parts}
+use borrow.Author.Tests.{le-leb, eqb-true, ne_eqb}
+use lib.Dec.{eqb}
+use lib.ListN.{length, get_or, take, drop}
+use lib.Seq.{sets}
+use Rattle.std.proofs.Common.{length-drop, length-take-le}
 use Rattle.wire.specs.Bytes.{word_at, laid}
 use Rattle.storage.specs.Open.{in_bounds, parts_fit, nor_fits, scratch_ok}
 use Rattle.storage.specs.Partition.{lists_ok}
 use Rattle.storage.specs.Store.{good}
-use Rattle.engine.specs.declared.types.Ended.{Ended}
-use Rattle.engine.specs.declared.types.Ended.TheVariants.{Ok, Fail, Unsupported, Odd}
+use Rattle.engine.specs.declared.types.Failure.{Failure}
+use Rattle.engine.specs.declared.types.Failure.TheVariants.{Failed, Unsupported, Odd}
 use Rattle.engine.specs.declared.types.Engine.{Engine}
 use Rattle.engine.specs.declared.types.Frame.{Frame}
 use Rattle.engine.specs.declared.types.Said.{Said}
-use Rattle.engine.specs.declared.short.Answered.{Answered}
 use Rattle.storage.specs.declared.types.Store.{Store}
-use Rattle.engine.specs.declared.short.Alone.TheVariants.{Query}
 use Rattle.engine.specs.World.{Given, World, world, with_said, dev_of}
-use Rattle.engine.specs.Reply.{status_is, placing}
+use Rattle.engine.specs.Reply.{status_is, length_is, placing}
 use Rattle.engine.specs.Reply as said
 use Rattle.engine.specs.Command.{plain, asking}
 use Rattle.engine.specs.Short.{alone_of, Answer, answered, answered_by, answer_of, answers}
 use Rattle.engine.specs.Feed.{SaidFit, FrameFit}
 use Rattle.engine.specs.Api.{rooms_ok, frame_ok, said_ok, bounds_ok, up_ok, engine_ok, fits, writes, reads}
 use Rattle.engine.proofs.Commands.{plain_sees}
-use Rattle.engine.proofs.Apis.{world_fit}
+use Rattle.engine.proofs.Apis.{said_fit, world_fit}
+use Rattle.engine.proofs.Replies.{front_is}
 use Rattle.engine_laws.specs.Query.{query_alone}
-use Rattle.lamjhotu.specs.State.{set_of, frame_at, said_at, update_at, shape_at, store_at, unpack_of}
+use Rattle.lamjhotu.specs.State.{set_of, pack_over, frame_at, said_at, update_at, shape_at, store_at, unpack_of}
 use Rattle.lamjhotu.specs.Calls.{kept, wrote, wrote_by, writes_in, Took, took, reads_in, fits_but, idle_of, Asked, asks, asked, next_by}
 use Rattle.lamjhotu.specs.CallLaws.{write_refused, read_refused}
-use Rattle.lamjhotu.proofs.Exports.{yes}
+use Rattle.lamjhotu.proofs.Fronts.{unpack_front, kept_by}
 
 -- ---- tests that went so
-
-true_not_false : true ≡ false → ⊥
-true_not_false h = eqb-false 0 0 h refl
 
 no_last : (a b c : Bool) {d : Bool} → d ≡ false → false ≡ (a && (b && (c && d)))
 no_last false b c h = refl
@@ -50,23 +50,23 @@ no_last true true true h = sym h
 no_first : (a b c d : Bool) → (a && b) ≡ false → false ≡ (a && (b && (c && d)))
 no_first false b c d h = refl
 no_first true false c d h = refl
-no_first true true c d h = absurd (true_not_false h)
+no_first true true c d h = absurd (true≢false h)
 
 both_so : (a b c : Bool) {d : Bool} → (a && b) ≡ true → d ≡ true → c ≡ (a && (b && (c && d)))
 both_so true true true h i = sym i
 both_so true true false h i = refl
-both_so true false c h i = absurd (true_not_false (sym h))
-both_so false b c h i = absurd (true_not_false (sym h))
+both_so true false c h i = absurd (true≢false (sym h))
+both_so false b c h i = absurd (true≢false (sym h))
 
 with_lists : (a b c l d : Bool) → (a && (b && (c && d))) ≡ true → l ≡ true → (a && (b && (c && (l && d)))) ≡ true
 with_lists true true true true d h i = h
-with_lists true true true false d h i = absurd (true_not_false (sym i))
-with_lists true true false l d h i = absurd (true_not_false (sym h))
-with_lists true false c l d h i = absurd (true_not_false (sym h))
-with_lists false b c l d h i = absurd (true_not_false (sym h))
+with_lists true true true false d h i = absurd (true≢false (sym i))
+with_lists true true false l d h i = absurd (true≢false (sym h))
+with_lists true false c l d h i = absurd (true≢false (sym h))
+with_lists false b c l d h i = absurd (true≢false (sym h))
 
 not_lists : (a b c l d : Bool) → l ≡ false → (a && (b && (c && (l && d)))) ≡ false
-not_lists true true true true d i = absurd (true_not_false i)
+not_lists true true true true d i = absurd (true≢false i)
 not_lists true true true false d i = refl
 not_lists true true false l d i = refl
 not_lists true false c l d i = refl
@@ -86,6 +86,18 @@ module _ (s : List ℕ) (chip marks buffer : ℕ) where
       → r ≡ (in_bounds (store_at s) && parts_fit (store_at s) chip marks buffer)
   unfolding nor_fits in_bounds parts_fit store_at shape_at
   nor_told h k = rw h k
+
+-- the numbers that were read are the state's
+pub numbers_same : (s : List ℕ) (request reply : ℕ) {f : Frame} {a : Said} {x y z : ℕ} {r : Bool} → f ≡ frame_at s → a ≡ said_at s → x ≡ word_at 8 s 32 → y ≡ word_at 8 s 40 → z ≡ word_at 8 s 48
+    → r ≡ (rooms_ok request reply && (frame_ok f && (said_ok a && bounds_ok x y z)))
+    → (rooms_ok request reply && (frame_ok (frame_at s) && (said_ok (said_at s) && bounds_ok (word_at 8 s 32) (word_at 8 s 40) (word_at 8 s 48)))) ≡ r
+numbers_same s request reply {f} {a} {x} {y} {z} h i j k l m =
+    ap (λ (f : Frame). rooms_ok request reply && (frame_ok f && (said_ok (said_at s) && bounds_ok (word_at 8 s 32) (word_at 8 s 40) (word_at 8 s 48)))) (sym h)
+    ∙ ap (λ (a : Said). rooms_ok request reply && (frame_ok f && (said_ok a && bounds_ok (word_at 8 s 32) (word_at 8 s 40) (word_at 8 s 48)))) (sym i)
+    ∙ ap (λ (x : ℕ). rooms_ok request reply && (frame_ok f && (said_ok a && bounds_ok x (word_at 8 s 40) (word_at 8 s 48)))) (sym j)
+    ∙ ap (λ (y : ℕ). rooms_ok request reply && (frame_ok f && (said_ok a && bounds_ok x y (word_at 8 s 48)))) (sym k)
+    ∙ ap (λ (z : ℕ). rooms_ok request reply && (frame_ok f && (said_ok a && bounds_ok x y z))) (sym l)
+    ∙ sym m
 
 module _ (s : List ℕ) (request reply chip buffer scratch marks : ℕ) where
   abbrev fine : Bool
@@ -131,12 +143,11 @@ module _ (g : Given) (s q p c b x : List ℕ) where
 
 -- ---- an answer
 
-status_few : (x : Ended) → status_is x ≡ 9 → ⊥
-unfolding status_is
+status_few : (x : Result ℕ Failure) → status_is x ≡ 9 → ⊥
 status_few (Ok n) h = omega arith
-status_few Fail h = omega arith
-status_few Unsupported h = omega arith
-status_few Odd h = omega arith
+status_few (Err Failed) h = omega arith
+status_few (Err Unsupported) h = omega arith
+status_few (Err Odd) h = omega arith
 
 answer_few : (c : ℕ) (e : Engine) (t p : List ℕ) → (answer_of c e t p).status ≡ 9 → ⊥
 unfolding answer_of
@@ -147,14 +158,18 @@ pub answer_sees : (c : ℕ) (e : Engine) (t p : List ℕ) → answer_of c (askin
 unfolding answer_of
 answer_sees c e t p = ap (λ (a : said.Answer). answered_by c (placing a p)) (plain_sees c e t)
 
--- the answer of a state's record, from its four parts, and its place in the state
-pub ask_told : (s q p d tb : List ℕ) (k : ℕ) {st : Store} {base burn run : ℕ} {r : Answered} {t u v : List ℕ} → st ≡ store_at s → base ≡ word_at 4 s 124 → burn ≡ word_at 4 s 116
-    → run ≡ word_at 4 s 120 → answered r v ≡ answer_of k (asking base burn run st) tb p → u ≡ laid q 0 d
-    → t ≡ kept s (with_said (record { len = r.len; pos = 0 }) (unpack_of s)) → asks r.status t u v ≡ asked s q d (answer_of k (unpack_of s) tb p)
+asking_sees : (s : List ℕ) (k : ℕ) (tb p : List ℕ) {st : Store} {base burn run : ℕ} → st ≡ store_at s → base ≡ word_at 4 s 124 → burn ≡ word_at 4 s 116 → run ≡ word_at 4 s 120
+    → answer_of k (asking base burn run st) tb p ≡ answer_of k (unpack_of s) tb p
 unfolding unpack_of update_at
-ask_told s q p d tb k {r = r} {v = v} a b c e f h i =
-    let g : answered r v ≡ answer_of k (unpack_of s) tb p = f ∙ rw (a, b, c, e) (answer_sees k (unpack_of s) tb p) in
-    rw (h, i) (ap (asked s q d) g)
+asking_sees s k tb p a b c e = rw (a, b, c, e) (answer_sees k (unpack_of s) tb p)
+
+-- the answer of a state's record, from its four parts, and its place in the state
+pub ask_told : (s rest q p d tb : List ℕ) (k : ℕ) (r : Result ℕ Failure) {st : Store} {base burn run m l : ℕ} {t u v : List ℕ} → length s ≡ 652 → length t ≡ 652 → st ≡ store_at s → base ≡ word_at 4 s 124 → burn ≡ word_at 4 s 116
+    → run ≡ word_at 4 s 120 → answered r v ≡ answer_of k (asking base burn run st) tb p → m ≡ status_is r → l ≡ length_is r → u ≡ laid q 0 d
+    → t ≡ pack_over s (with_said (record { len = l; pos = 0 }) (unpack_of s)) → asks m (t ++ rest) u v ≡ asked (s ++ rest) q d (answer_of k (unpack_of (s ++ rest)) tb p)
+ask_told s rest q p d tb k r {l = l} {v = v} x y a b c e f m n h i =
+    let g : answered r v ≡ answer_of k (unpack_of (s ++ rest)) tb p = f ∙ asking_sees s k tb p a b c e ∙ ap (λ (e : Engine). answer_of k e tb p) (sym (unpack_front s rest x)) in
+    rw (m, h, kept_by s rest x (λ (e : Engine). with_said (record { len = l; pos = 0 }) e) y i, n) (ap (asked (s ++ rest) q d) g)
 
 -- ---- a query alone, between frames
 
@@ -166,14 +181,6 @@ frame_none f h i = go f.total refl
     go zero e = e
     go (suc n) e = absurd (omega (arith, h.1 (λ z. omega arith)))
 
-and_first : (a b : Bool) → (a && b) ≡ true → a ≡ true
-and_first true b h = refl
-and_first false b h = h
-
-and_second : (a b : Bool) → (a && b) ≡ true → b ≡ true
-and_second true b h = h
-and_second false b h = absurd (true_not_false (sym h))
-
 module _ (g : Given) (s q p c b x : List ℕ) (f : fits g (world (unpack_of s) q p c b x) ≡ true) (i : idle_of s ≡ true) where
   frame_of : FrameFit (frame_at s)
   unfolding unpack_of
@@ -181,87 +188,80 @@ module _ (g : Given) (s q p c b x : List ℕ) (f : fits g (world (unpack_of s) q
 
   len_is : word_at 8 s 0 ≡ word_at 8 s 8
   unfolding idle_of
-  len_is = eqb-true (word_at 8 s 0) (word_at 8 s 8) (and_first (eqb (word_at 8 s 0) (word_at 8 s 8)) (eqb (word_at 8 s 48) (word_at 8 s 8)) i)
+  len_is = eqb-true (word_at 8 s 0) (word_at 8 s 8) (and_parts (eqb (word_at 8 s 0) (word_at 8 s 8)) (eqb (word_at 8 s 48) (word_at 8 s 8)) i).0
 
   left_is : word_at 8 s 48 ≡ word_at 8 s 8
   unfolding idle_of
-  left_is = eqb-true (word_at 8 s 48) (word_at 8 s 8) (and_second (eqb (word_at 8 s 0) (word_at 8 s 8)) (eqb (word_at 8 s 48) (word_at 8 s 8)) i)
+  left_is = eqb-true (word_at 8 s 48) (word_at 8 s 8) (and_parts (eqb (word_at 8 s 0) (word_at 8 s 8)) (eqb (word_at 8 s 48) (word_at 8 s 8)) i).1
 
   total_none : word_at 8 s 8 ≡ 0
   total_none = frame_none (frame_at s) frame_of len_is
 
   -- the write of a query alone is its answer
-  pub query_told : (d : List ℕ) {n : ℕ} {t u v : List ℕ} {k : ℕ} → 652 ≤ length s → alone_of d ≡ Query k → asks n t u v ≡ asked s q d (answer_of k (unpack_of s) g.table p)
-      → wrote n t u v c b x ≡ writes_in g s q p c b x d
+  pub query_told : (d : List ℕ) {m n : ℕ} {t u v z : List ℕ} {k : ℕ} → 652 ≤ length s → z ≡ s → alone_of d ≡ Some k → m ≡ n → asks n t u v ≡ asked z q d (answer_of k (unpack_of z) g.table p)
+      → wrote m t u v c b x ≡ writes_in g s q p c b x d
   unfolding writes_in unpack_of update_at
-  query_told d {k = k} h a r =
+  query_told d {t = t} {u = u} {v = v} {k = k} h j a m r =
       let w : World = world (unpack_of s) q p c b x in
       let y : Answer = answer_of k (unpack_of s) g.table p in
       let o : writes g w d ≡ answers w d y = query_alone g w d k f (len_is ∙ total_none) total_none (left_is ∙ total_none) a in
-      ap (λ (z : Asked). wrote z.number z.state z.request z.reply c b x) r
+      ap (λ (z : ℕ). wrote z t u v c b x) m
+      ∙ ap (λ (z : Asked). wrote z.number z.state z.request z.reply c b x) (r ∙ ap (λ (z : List ℕ). asked z q d (answer_of k (unpack_of z) g.table p)) j)
       ∙ ap (λ (t : Bool). wrote y.status (cond t s (kept s (with_said (record { len = y.len; pos = 0 }) (unpack_of s)))) (laid q 0 d) y.reply c b x) (sym (ne_eqb y.status 9 (answer_few k (unpack_of s) g.table p)))
       ∙ ap (wrote_by s) (sym o)
-      ∙ yes _ _ (le-leb 652 (length s) h)
+      ∙ sym (cond-true _ _ _ (le-leb 652 (length s) h))
 
 -- ---- a refusal
 
 module _ (g : Given) (s q p c b x : List ℕ) (f : fits g (world (unpack_of s) q p c b x) ≡ false) where
-  pub write_none : (d : List ℕ) → wrote 9 s q p c b x ≡ writes_in g s q p c b x d
-  write_none d = sym (write_refused g s q p c b x f d)
+  pub write_none : (d : List ℕ) {z : List ℕ} → z ≡ s → wrote 9 z q p c b x ≡ writes_in g s q p c b x d
+  write_none d i = ap (λ (z : List ℕ). wrote 9 z q p c b x) i ∙ sym (write_refused g s q p c b x f d)
 
-  pub read_none : (room : List ℕ) → took (2 ^ 32 - 1) s room ≡ reads_in g s q p c b x room
-  read_none room = sym (read_refused g s q p c b x f room)
+  pub read_none : (room : List ℕ) {z : List ℕ} → z ≡ s → took (2 ^ 32 - 1) z room ≡ reads_in g s q p c b x room
+  read_none room i = ap (λ (z : List ℕ). took (2 ^ 32 - 1) z room) i ∙ sym (read_refused g s q p c b x f room)
 
 -- ---- a read
 
-said_within : (a : Said) → said_ok a ≡ true → SaidFit a
-unfolding said_ok
-said_within a h =
-    let i = and_first (leb a.pos a.len) (leb a.len 4112) h in
-    let j = and_second (leb a.pos a.len) (leb a.len 4112) h in
-    (leb-true a.pos a.len i, leb-true a.len 4112 j)
-
--- the bounds of a reply's place
-pub said_fit : {a : Said} (b : Said) → a ≡ b → SaidFit b → SaidFit a
-said_fit b h i = rw h i
-
 but_said : (a f h i c d : Bool) → (a && ((f && (h && i)) && (c && d))) ≡ true → (a ≡ true) × (h ≡ true)
 but_said true true true i c d k = (refl, refl)
-but_said true true false i c d k = absurd (true_not_false (sym k))
-but_said true false h i c d k = absurd (true_not_false (sym k))
-but_said false f h i c d k = absurd (true_not_false (sym k))
+but_said true true false i c d k = absurd (true≢false (sym k))
+but_said true false h i c d k = absurd (true≢false (sym k))
+but_said false f h i c d k = absurd (true≢false (sym k))
 
 pub read_fit : (s : List ℕ) (request reply chip buffer scratch marks : ℕ) → fits_but (unpack_of s) request reply chip buffer scratch marks ≡ true
     → SaidFit (said_at s) × (reply ≡ 4112)
-unfolding fits_but engine_ok up_ok rooms_ok unpack_of update_at
+unfolding fits_but engine_ok up_ok unpack_of update_at
 read_fit s request reply chip buffer scratch marks h =
     let k : (rooms_ok request reply ≡ true) × (said_ok (said_at s) ≡ true) =
     but_said (rooms_ok request reply) (frame_ok (frame_at s)) (said_ok (said_at s)) (bounds_ok (word_at 8 s 32) (word_at 8 s 40) (word_at 8 s 48))
     (in_bounds (store_at s) && parts_fit (store_at s) chip marks buffer) (scratch_ok (word_at 4 s 124) scratch) h in
-    (said_within (said_at s) k.1, eqb-true reply 4112 (and_second (eqb request 8208) (eqb reply 4112) k.0))
+    (said_fit (said_at s) k.1, eqb-true reply 4112 (and_parts (eqb request 8208) (eqb reply 4112) k.0).1)
 
 module _ (s p room : List ℕ) where
   abbrev pos : ℕ
   pos = word_at 8 s 24
 
   pub next_told : {n : ℕ} {t y : List ℕ} → length p ≡ 4112 → SaidFit (said_at s) → n ≡ min (word_at 8 s 16 - pos) (length room)
-      → y ≡ laid room 0 (take (pos + n - pos) (drop pos p)) → t ≡ kept s (with_said (record { len = word_at 8 s 16; pos = pos + n }) (unpack_of s))
-      → took n t y ≡ next_by s p room
-  unfolding next_by laid
-  next_told {n} l h i j k =
+      → y ≡ take (pos + n - pos) (drop pos p) → t ≡ kept s (with_said (record { len = word_at 8 s 16; pos = pos + n }) (unpack_of s))
+      → took n t (y ++ drop n room) ≡ next_by s p room
+  unfolding next_by
+  next_told {n} {y = y} l h i j k =
       let e : pos + n - pos ≡ n = omega arith in
-      let m : 0 + length (take n (drop pos p)) ≤ length room = omega (arith, length-take n (drop pos p)) in
-      rw (j, e, le-leb (0 + length (take n (drop pos p))) (length room) m, k, ← i)
+      let z : y ≡ take n (drop pos p) = j ∙ ap (λ (m : ℕ). take m (drop pos p)) e in
+      let f : length (take n (drop pos p)) ≡ n = length-take-le n (drop pos p) (simp length-drop (omega (arith, i, l, h.0, h.1))) in
+      let r : sets room 0 (take n (drop pos p)) ≡ y ++ drop n room =
+      front_is room (take n (drop pos p)) (omega (arith, f, i)) ∙ ap (λ (m : ℕ). take n (drop pos p) ++ drop m room) f ∙ ap (λ (x : List ℕ). x ++ drop n room) (sym z) in
+      rw (k, ← i, r)
 
 -- the same from the place that the code has read
 pub next_so : (s p room : List ℕ) {a : Said} {n : ℕ} {t y : List ℕ} → length p ≡ 4112 → SaidFit (said_at s) → a ≡ said_at s → n ≡ min (a.len - a.pos) (length room)
-    → y ≡ laid room 0 (take (a.pos + n - a.pos) (drop a.pos p)) → t ≡ kept s (with_said (record { len = a.len; pos = a.pos + n }) (unpack_of s))
-    → took n t y ≡ next_by s p room
+    → y ≡ take (a.pos + n - a.pos) (drop a.pos p) → t ≡ kept s (with_said (record { len = a.len; pos = a.pos + n }) (unpack_of s))
+    → took n t (y ++ drop n room) ≡ next_by s p room
 next_so s p room {a} {n} {t} {y} l h e i j k =
-    next_told s p room l h (i ∙ ap (λ (z : Said). min (z.len - z.pos) (length room)) e) (j ∙ ap (λ (z : Said). laid room 0 (take (z.pos + n - z.pos) (drop z.pos p))) e)
+    next_told s p room l h (i ∙ ap (λ (z : Said). min (z.len - z.pos) (length room)) e) (j ∙ ap (λ (z : Said). take (z.pos + n - z.pos) (drop z.pos p)) e)
     (k ∙ ap (λ (z : Said). kept s (with_said (record { len = z.len; pos = z.pos + n }) (unpack_of s))) e)
 
-pub read_told : (g : Given) (s q p c b x room : List ℕ) {r : Took} → 652 ≤ length s → fits g (world (unpack_of s) q p c b x) ≡ true → r ≡ next_by s p room
+pub read_told : (g : Given) (s q p c b x room : List ℕ) {r : Took} {z : List ℕ} → 652 ≤ length s → z ≡ s → fits g (world (unpack_of s) q p c b x) ≡ true → r ≡ next_by z p room
     → r ≡ reads_in g s q p c b x room
 unfolding reads_in reads next_by unpack_of
-read_told g s q p c b x room h f i = i ∙ rw f (yes _ _ (le-leb 652 (length s) h))
+read_told g s q p c b x room h j f i = i ∙ ap (λ (z : List ℕ). next_by z p room) j ∙ rw f (sym (cond-true _ _ _ (le-leb 652 (length s) h)))

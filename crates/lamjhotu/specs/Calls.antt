@@ -1,20 +1,15 @@
 -- The exported calls: the engine's own, on a record that lies in bytes (01, 'Replies and refusals', row 9).
-use Rattle.std.specs.Prelude.{Bool, ◌&&◌, cond, List, ℕ, ◌+◌, ◌-◌, ◌^◌, min, leb, ltb, eqb, length, replicate, take, drop}
+use Rattle.std.specs.Prelude.{Option, None, Some, Result, Ok, Err, Bool, ◌&&◌, cond, List, ℕ, ◌+◌, ◌-◌, ◌^◌, min, leb, ltb, eqb, length, replicate, take, drop}
 use Rattle.std.proofs.lemmas.List.Edits.{sets}
 use Rattle.wire.specs.Bytes.{word_at, laid}
+use Rattle.storage.specs.declared.types.CallError.{CallError}
 use Rattle.storage.specs.World as storage
 use Rattle.storage.specs.Open.{in_bounds, parts_fit, scratch_ok}
 use Rattle.engine.specs.declared.types.Engine.{Engine}
-use Rattle.engine.specs.declared.api.Opening.{Opening}
-use Rattle.engine.specs.declared.api.Got.{Got}
-use Rattle.engine.specs.declared.api.Got.TheVariants as got
 use Rattle.engine.specs.World.{Given, world, with_said, with_up, with_store, Out}
-use Rattle.engine.specs.Api.{rooms_ok, engine_ok, writes, Read, reads, cleared}
+use Rattle.engine.specs.Api.{rooms_ok, engine_ok, Opening, writes, Read, reads, cleared}
 use Rattle.engine.specs.Stream.{taken}
 use Rattle.engine.specs.Short.{Answer, alone_of}
-use Rattle.engine.specs.declared.short.Alone.{Alone}
-use Rattle.engine.specs.declared.short.Alone.TheVariants.{Other}
-use Rattle.engine.specs.declared.short.Alone.TheVariants as alone
 use Rattle.lamjhotu.specs.declared.quick.Way.{Way}
 use Rattle.lamjhotu.specs.declared.quick.Way.TheVariants.{Query, Piece, Whole}
 use Rattle.lamjhotu.specs.State.{flag_of, pack_over, update_at, unpack_of}
@@ -76,14 +71,14 @@ writes_in g s q p c b x d = cond (holds s) (wrote_by s (writes g (world (unpack_
 -- ---- read
 
 -- the number that tells a refusal from a count
-abbrev pub number_of : Got → ℕ
-number_of got.Refused = 2 ^ 32 - 1
-number_of (got.Count n) = n
+abbrev pub number_of : Result ℕ CallError → ℕ
+number_of (Err e) = 2 ^ 32 - 1
+number_of (Ok n) = n
 
 -- the record is kept unless the read was refused
-abbrev pub state_by : List ℕ → Engine → Got → List ℕ
-state_by s e got.Refused = s
-state_by s e (got.Count n) = kept s e
+abbrev pub state_by : List ℕ → Engine → Result ℕ CallError → List ℕ
+state_by s e (Err x) = s
+state_by s e (Ok n) = kept s e
 
 -- what a read answers, the state, and the room
 pub record Took : Type 0 where
@@ -154,9 +149,9 @@ unfoldable pub piece_in : List ℕ → List ℕ → Bool
 piece_in s bytes = ltb 0 (length bytes) && ltb (length bytes) (word_at 8 s 48)
 
 -- what a write is to an engine in bounds
-abbrev pub way_by : Alone → Way
-way_by Other = Whole
-way_by (alone.Query c) = Query c
+abbrev pub way_by : Option ℕ → Way
+way_by None = Whole
+way_by (Some c) = Query c
 
 unfoldable pub way_of : List ℕ → List ℕ → Way
 way_of s bytes = cond (piece_in s bytes) Piece (cond (idle_of s) (way_by (alone_of bytes)) Whole)

@@ -2,8 +2,6 @@
 -- are, so that a call that changes one number has one number to write.
 use Rattle.std.specs.Prelude.{Bool, true, false, not, cond, List, [], ◌∷◌, ◌++◌, ℕ, eqb, get_or, take, drop}
 use Rattle.wire.specs.Bytes.{bytes_of, word_at}
-use Rattle.storage.specs.declared.types.Erased.{Erased}
-use Rattle.storage.specs.declared.types.Erased.TheVariants.{None, Block}
 use Rattle.storage.specs.declared.types.Kind.{Kind}
 use Rattle.storage.specs.declared.types.Kind.TheVariants.{Nor, Nand}
 use Rattle.storage.specs.declared.types.Shape.{Shape}
@@ -13,6 +11,7 @@ use Rattle.engine.specs.declared.types.Frame.{Frame}
 use Rattle.engine.specs.declared.types.Said.{Said}
 use Rattle.engine.specs.declared.types.Update.{Update}
 use Rattle.engine.specs.World.{with_up, with_store}
+use Rattle.std.specs.Prelude.{Option, None, Some}
 
 -- ---- from a record to bytes
 
@@ -27,14 +26,14 @@ abbrev pub is_nor : Kind → Bool
 is_nor Nor = true
 is_nor Nand = false
 
-abbrev pub is_block : Erased → Bool
+abbrev pub is_block : Option ℕ → Bool
 is_block None = false
-is_block (Block n) = true
+is_block (Some n) = true
 
 -- the number of the erased block over the one that stands there, which stays where there is no such block
-abbrev pub block_over : ℕ → Erased → ℕ
+abbrev pub block_over : ℕ → Option ℕ → ℕ
 block_over old None = old
-block_over old (Block n) = n
+block_over old (Some n) = n
 
 -- four numbers of eight bytes
 unfoldable pub four_of : ℕ → ℕ → ℕ → ℕ → List ℕ
@@ -80,8 +79,8 @@ abbrev pub kind_of : Bool → Kind
 kind_of true = Nor
 kind_of false = Nand
 
-abbrev pub erased_of : Bool → ℕ → Erased
-erased_of true n = Block n
+abbrev pub erased_of : Bool → ℕ → Option ℕ
+erased_of true n = Some n
 erased_of false n = None
 
 -- the mark at a place

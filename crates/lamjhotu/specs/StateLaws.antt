@@ -10,8 +10,6 @@ use Rattle.std.proofs.Math.Seq.{take_at}
 use Rattle.wire.specs.Bytes.{bytes_of, le, word_at, laid}
 use Rattle.wire.proofs.Copies.{laid_fits}
 use Rattle.wire.proofs.Words.{le_bytes_of}
-use Rattle.storage.specs.declared.types.Erased.{Erased}
-use Rattle.storage.specs.declared.types.Erased.TheVariants.{None, Block}
 use Rattle.storage.specs.declared.types.Kind.{Kind}
 use Rattle.storage.specs.declared.types.Kind.TheVariants.{Nor, Nand}
 use Rattle.storage.specs.declared.types.Shape.{Shape}
@@ -20,6 +18,7 @@ use Rattle.engine.specs.declared.types.Engine.{Engine}
 use Rattle.engine.specs.declared.types.Update.{Update}
 use Rattle.engine.specs.World.{with_said}
 use Rattle.lamjhotu.specs.State.{mark_over, is_nor, is_block, block_over, four_of, words_over, smalls_of, marks_over, pack_over, set_of, kind_of, erased_of, meta_at, shape_at, store_at, update_at, unpack_of}
+use Rattle.std.specs.Prelude.{Option, None, Some}
 
 -- ---- a field alone
 
@@ -42,9 +41,9 @@ kind_back : (old : ℕ) (k : Kind) → kind_of (set_of (mark_over old (is_nor k)
 kind_back old Nor = ap kind_of (mark_back old true)
 kind_back old Nand = ap kind_of (mark_back old false)
 
-erased_back : (old w : ℕ) (x : Erased) {n : ℕ} → n ≡ block_over w x → erased_of (set_of (mark_over old (is_block x))) n ≡ x
+erased_back : (old w : ℕ) (x : Option ℕ) {n : ℕ} → n ≡ block_over w x → erased_of (set_of (mark_over old (is_block x))) n ≡ x
 erased_back old w None {n} h = ap (λ (b : Bool). erased_of b n) (mark_back old false)
-erased_back old w (Block n) h = ap₂ erased_of (mark_back old true) h
+erased_back old w (Some n) h = ap₂ erased_of (mark_back old true) h
 
 -- ---- a record by its fields
 
@@ -52,7 +51,7 @@ shape_is : (p : Shape) {k : Kind} {a b c d f g : ℕ} → k ≡ p.kind → a ≡
     → ◌≡◌ {A = Shape} (record { kind = k; page = a; pages = b; blocks = c; capacity = d; stage = f; device = g }) p
 shape_is p h i j l m n o = rw (h, i, j, l, m, n, o)
 
-store_is : (t : Store) {p : Shape} {h : Bool} {a : ℕ} {x : Erased} {n : ℕ} → p ≡ t.shape → h ≡ t.held → a ≡ t.at → x ≡ t.erased → n ≡ t.calls
+store_is : (t : Store) {p : Shape} {h : Bool} {a : ℕ} {x : Option ℕ} {n : ℕ} → p ≡ t.shape → h ≡ t.held → a ≡ t.at → x ≡ t.erased → n ≡ t.calls
     → ◌≡◌ {A = Store} (record { shape = p; held = h; at = a; erased = x; calls = n }) t
 store_is t h i j k l = rw (h, i, j, k, l)
 
@@ -109,9 +108,9 @@ le_below (suc n) (b ∷ s) h = rw pow-suc (omega (arith, h 0, le_below n s (λ k
 drop_bytes : (at : ℕ) (s : List ℕ) → Bytes s → Bytes (drop at s)
 drop_bytes at s h k = rw get_or-drop (h (at + k))
 
-block_below : (w : ℕ) (x : Erased) → w < 2 ^ 64 → block_over 0 x < 2 ^ 64 → block_over w x < 2 ^ 64
+block_below : (w : ℕ) (x : Option ℕ) → w < 2 ^ 64 → block_over 0 x < 2 ^ 64 → block_over w x < 2 ^ 64
 block_below w None h i = h
-block_below w (Block n) h i = i
+block_below w (Some n) h i = i
 
 module _ (s : List ℕ) (e : Engine) (rest : List ℕ) (r : Ranged e) (b : Bytes s) where
   word_below : word_at 8 s 96 < 2 ^ 64

@@ -3,5 +3,6 @@
 #![tactic(auto)]
 
 pub mod calls;
+mod fields;
 pub mod quick;
 pub mod state;

@@ -1,333 +1,139 @@
 // Runs the functions of `wire` and `text` on stored inputs and prints what they answer, a line for
-// each record; what they must answer stands in `stdout` (oracle/leaves makes both files). The kinds
-// are those of `one`.
+// each record; what they must answer stands in `stdout` (oracle/leaves makes both files).
 #![tactic(auto)]
 
-ghost use Rattle.std.specs.Prelude.{◌+◌, ◌≤◌, ◌<◌, length};
+mod kind;
+mod lines;
 
-use record::Next;
+use crate::kind::Kind;
+use crate::lines::{Texts, Tokens, flag, piece};
+use record::parts::{byte, from, upto};
+use record::print::{Hex, Printer};
 use std::io;
-use std::io::{Read, Write};
-use text::number::Number;
-use text::token::Place;
+use std::io::Write;
+use std::ops::ControlFlow;
+use text::number;
+use text::token::{before_semicolon, before_zero, same, starts_with};
+use text::trim::trim;
+use text::utf8::is_utf8;
 use wire::bytes::{le4, le8, put, u16_at, u32_at, u64_at};
-use wire::header::Header;
-use wire::packet::Cbw;
+use wire::crc::crc32_update;
+use wire::header::{build_header, parse_header};
+use wire::packet::{csw, parse_cbw};
 
-// A word, and behind it bytes in hexadecimal, if there are any.
-fn word_and_hex<W: Write>(to: &mut W, word: &[u8], s: &[u8]) -> io::Result<()> {
-    record::text(to, word)?;
-    if 0 < s.len() {
-        record::text(to, b" ")?;
-        record::hex(to, s)?;
-    }
-    Ok(())
-}
-
-// A word, and 1 or 0.
-fn word_and_flag<W: Write>(to: &mut W, word: &[u8], flag: bool) -> io::Result<()> {
-    record::text(to, word)?;
-    if flag {
-        record::text(to, b" 1")
-    } else {
-        record::text(to, b" 0")
-    }
-}
-
-// A space and a number.
-fn and_number<W: Write>(to: &mut W, n: u64) -> io::Result<()> {
-    record::text(to, b" ")?;
-    record::decimal(to, n)
-}
-
-// The bytes from a place on, and none past the end.
-fn from(s: &[u8], at: usize) -> &[u8] {
-    if s.len() < at {
-        return &s[0..0];
-    }
-    &s[at..]
-}
-
-// The bytes up to a place, and all where the end comes first.
-fn upto(s: &[u8], end: usize) -> &[u8] {
-    if s.len() < end {
-        return s;
-    }
-    &s[0..end]
-}
-
-// ---- many short texts at once
-
-// Is text number t UTF-8: a first byte and one, two or three bytes of a set, the last place fastest.
-fn text_is_utf8(more: u8, first: u8, set: &[u8], t: usize) -> bool {
-    let m = set.len();
-    if m == 0 {
-        return false;
-    }
-    let x = set[t / m / m % m];
-    let y = set[t / m % m];
-    let z = set[t % m];
-    if more == 1 {
-        return text::utf8::is_utf8(&[first, z]);
-    }
-    if more == 2 {
-        return text::utf8::is_utf8(&[first, y, z]);
-    }
-    text::utf8::is_utf8(&[first, x, y, z])
-}
-
-// How many texts there are. Where two or three bytes follow the first, they are of a set of ten.
-fn text_count(more: u8, set: &[u8]) -> usize
-    ensures { result ≤ 1000 }
-{
-    let m = set.len();
-    if 256 < m {
-        return 0;
-    }
-    if more == 1 {
-        return m;
-    }
-    if more == 2 {
-        return 100;
-    }
-    1000
-}
-
-// 1 where text number t is there and is UTF-8.
-fn bit(more: u8, first: u8, set: &[u8], t: usize, total: usize) -> u8
-    ensures { result < 2 }
-{
-    if total <= t {
-        return 0;
-    }
-    if text_is_utf8(more, first, set, t) {
-        return 1;
-    }
-    0
-}
-
-// Prints a digit for each four texts.
-fn texts<W: Write>(to: &mut W, body: &[u8]) -> io::Result<()> {
-    if body.len() < 2 {
-        return record::text(to, b"bad");
-    }
-    let more = body[0];
-    let first = body[1];
-    let set = &body[2..];
-    let total = text_count(more, set);
-    record::text(to, b"texts")?;
-    and_number(to, total as u64)?;
-    record::text(to, b" ")?;
-    let mut t: usize = 0;
-    while t < total {
-        let a = bit(more, first, set, t, total);
-        let b = bit(more, first, set, t + 1, total);
-        let c = bit(more, first, set, t + 2, total);
-        let d = bit(more, first, set, t + 3, total);
-        record::text(to, &[record::digit(a * 8 + b * 4 + c * 2 + d)])?;
-        t += 4;
-    }
-    Ok(())
-}
-
-// ---- text
-
-fn number<W: Write>(to: &mut W, body: &[u8]) -> io::Result<()> {
-    record::text(to, b"number")?;
-    match text::number::parse(body) {
-        Number::Value(n) => and_number(to, n),
-        Number::Bad => record::text(to, b" bad"),
-    }
-}
-
-fn tokens<W: Write>(to: &mut W, body: &[u8]) -> io::Result<()> {
-    record::text(to, b"tokens ")?;
-    let mut at: usize = 0;
-    let mut left: usize = 65536;
-    while 0 < left {
-        record::hex(to, text::token::token(body, at))?;
-        match text::token::place_after(body, at) {
-            Place::At(p) => {
-                record::text(to, b"|")?;
-                at = p;
-            }
-            Place::Done => {
-                return Ok(());
-            }
-        }
-        left -= 1;
-    }
-    Ok(())
-}
-
-// ---- wire
-
-fn header<W: Write>(to: &mut W, body: &[u8]) -> io::Result<()> {
-    record::text(to, b"header ")?;
-    let magic = u32_at(body, 0);
-    let pair = u16_at(body, 4);
-    let length = u32_at(body, 6);
-    let built = wire::header::build_header(
-        magic,
-        (pair % 256) as u8,
-        (pair / 256 % 256) as u8,
-        length,
-    );
-    record::hex(to, &built)
-}
-
-fn parsed<W: Write>(to: &mut W, body: &[u8]) -> io::Result<()> {
-    record::text(to, b"parsed")?;
-    match wire::header::parse_header(body) {
-        Header::Bad => record::text(to, b" bad"),
-        Header::Request {
-            command,
-            status,
-            length,
-        } => {
-            and_number(to, command as u64)?;
-            and_number(to, status as u64)?;
-            and_number(to, length as u64)
-        }
-    }
-}
-
-fn cbw<W: Write>(to: &mut W, body: &[u8]) -> io::Result<()> {
-    record::text(to, b"cbw")?;
-    match wire::packet::parse_cbw(body) {
-        Cbw::Bad => record::text(to, b" bad"),
-        Cbw::Command {
-            tag,
-            length,
-            command,
-        } => {
-            and_number(to, tag as u64)?;
-            and_number(to, length as u64)?;
-            and_number(to, command as u64)
-        }
-    }
-}
-
-fn csw<W: Write>(to: &mut W, body: &[u8]) -> io::Result<()> {
-    record::text(to, b"csw ")?;
-    let status = (u16_at(body, 4) % 256) as u8;
-    let made = wire::packet::csw(u32_at(body, 0), status, u32_at(body, 5));
-    record::hex(to, &made)
-}
-
-fn words<W: Write>(to: &mut W, body: &[u8]) -> io::Result<()> {
-    let at = u64_at(body, 0) as usize;
-    let s = from(body, 8);
-    record::text(to, b"words")?;
-    and_number(to, u16_at(s, at) as u64)?;
-    and_number(to, u32_at(s, at) as u64)?;
-    and_number(to, u64_at(s, at))
-}
-
-fn laid<W: Write>(to: &mut W, body: &[u8]) -> io::Result<()> {
-    let n = u64_at(body, 0);
-    let m = u32_at(body, 0);
-    record::text(to, b"laid ")?;
-    record::hex(to, &le4(m))?;
-    record::text(to, b" ")?;
-    record::hex(to, &le8(n))
+// Two texts in one body, behind the length of the first.
+fn two(body: &[u8]) -> (&[u8], &[u8]) {
+    let n = byte(body, 0) as usize;
+    (upto(from(body, 1), n), from(body, 1 + n))
 }
 
 // The body holds a place, a count, as many bytes, and the room that they are laid in.
-fn put_in<W: Write>(to: &mut W, body: &mut [u8]) -> io::Result<()> {
+fn laid<W: Write>(out: &mut Printer<W>, n: u64, body: &mut [u8]) -> io::Result<()> {
     let at = u64_at(body, 0) as usize;
-    let n = (u16_at(body, 8) % 256) as usize;
-    let mut some = [0u8; 256];
-    put(&mut some, 0, upto(from(body, 9), n));
-    let start = 9 + n;
+    let count = byte(body, 8) as usize;
+    let start = 9 + count;
     if body.len() < start {
-        return record::text(to, b"bad");
+        return writeln!(out, "{n} bad");
     }
-    put(&mut body[start..], at, upto(&some, n));
-    word_and_hex(to, b"put", from(body, start))
+    let mut some = [0u8; 256];
+    put(&mut some, 0, upto(from(body, 9), count));
+    put(&mut body[start..], at, upto(&some, count));
+    piece(out, n, "put", &body[start..])
 }
 
-// ---- the records
-
-fn of_text<W: Write>(to: &mut W, kind: u16, body: &[u8]) -> io::Result<()> {
+// A record: what its kind runs, and the line of what that answers. A `match`, since the kinds are a closed enum.
+fn answer<W: Write>(out: &mut Printer<W>, n: u64, kind: Kind, body: &mut [u8]) -> io::Result<()> {
     match kind {
-        1 => texts(to, body),
-        2 => word_and_flag(to, b"utf8", text::utf8::is_utf8(body)),
-        3 => word_and_hex(to, b"trim", text::trim::trim(body)),
-        4 => number(to, body),
-        5 => tokens(to, body),
-        6 => word_and_hex(to, b"before", text::token::before_semicolon(body)),
-        7 => word_and_hex(to, b"before", text::token::before_zero(body)),
-        _ => record::text(to, b"bad"),
-    }
-}
-
-// Two texts in one body, behind the length of the first.
-fn of_two<W: Write>(to: &mut W, kind: u16, body: &[u8]) -> io::Result<()> {
-    let n = (u16_at(body, 0) % 256) as usize;
-    let a = upto(from(body, 1), n);
-    let b = from(body, 1 + n);
-    if kind == 8 {
-        word_and_flag(to, b"same", text::token::same(a, b))
-    } else {
-        word_and_flag(to, b"starts", text::token::starts_with(a, b))
-    }
-}
-
-fn of_wire<W: Write>(to: &mut W, kind: u16, body: &mut [u8]) -> io::Result<()> {
-    match kind {
-        16 => {
-            record::text(to, b"crc ")?;
-            record::word(to, wire::crc::crc32_update(u32_at(body, 0), from(body, 4)))
+        Kind::Texts => match Texts::of(body) {
+            Some(texts) => writeln!(out, "{n} texts {} {texts}", texts.count()),
+            None => writeln!(out, "{n} bad"),
+        },
+        Kind::Utf8 => flag(out, n, "utf8", is_utf8(body)),
+        Kind::Trim => piece(out, n, "trim", trim(body)),
+        Kind::Number => match number::parse(body) {
+            Some(number) => writeln!(out, "{n} number {number}"),
+            None => writeln!(out, "{n} number bad"),
+        },
+        Kind::Tokens => writeln!(out, "{n} tokens {}", Tokens(body)),
+        Kind::BeforeSemicolon => piece(out, n, "before", before_semicolon(body)),
+        Kind::BeforeZero => piece(out, n, "before", before_zero(body)),
+        Kind::Same => {
+            let (a, b) = two(body);
+            flag(out, n, "same", same(a, b))
         }
-        17 => header(to, body),
-        18 => parsed(to, body),
-        19 => cbw(to, body),
-        20 => csw(to, body),
-        21 => words(to, body),
-        22 => put_in(to, body),
-        23 => laid(to, body),
-        _ => record::text(to, b"bad"),
-    }
-}
-
-// One record: 1 to 7 a text, 8 and 9 two texts, 16 to 23 words, checksums and wrappers.
-fn one<W: Write>(to: &mut W, n: u64, kind: u16, body: &mut [u8]) -> io::Result<()> {
-    record::decimal(to, n)?;
-    record::text(to, b" ")?;
-    if kind < 8 {
-        of_text(to, kind, body)?;
-        return record::text(to, b"\n");
-    }
-    if kind < 10 {
-        of_two(to, kind, body)?;
-        return record::text(to, b"\n");
-    }
-    of_wire(to, kind, body)?;
-    record::text(to, b"\n")
-}
-
-// Record after record, up to the end or to a malformed one.
-fn run<R: Read, W: Write>(input: &mut R, to: &mut W, room: &mut [u8]) -> io::Result<()> {
-    for n in 0..u64::MAX {
-        match record::read_record(input, room)? {
-            Next::Record { kind, length } => {
-                one(to, n, kind, &mut room[0..length])?;
-            }
-            Next::Bad => {
-                return record::text(to, b"bad\n");
-            }
-            Next::End => {
-                return Ok(());
-            }
+        Kind::StartsWith => {
+            let (s, front) = two(body);
+            flag(out, n, "starts", starts_with(s, front))
+        }
+        Kind::Crc => {
+            let crc = crc32_update(u32_at(body, 0), from(body, 4));
+            writeln!(out, "{n} crc {crc:08x}")
+        }
+        Kind::Header => {
+            let magic = u32_at(body, 0);
+            let header = build_header(magic, byte(body, 4), byte(body, 5), u32_at(body, 6));
+            writeln!(out, "{n} header {}", Hex(&header))
+        }
+        Kind::Parsed => match parse_header(body) {
+            Some(h) => writeln!(out, "{n} parsed {} {} {}", h.command, h.status, h.length),
+            None => writeln!(out, "{n} parsed bad"),
+        },
+        Kind::Cbw => match parse_cbw(body) {
+            Some(cbw) => writeln!(out, "{n} cbw {} {} {}", cbw.tag, cbw.length, cbw.command),
+            None => writeln!(out, "{n} cbw bad"),
+        },
+        Kind::Csw => {
+            let csw = csw(u32_at(body, 0), byte(body, 4), u32_at(body, 5));
+            writeln!(out, "{n} csw {}", Hex(&csw))
+        }
+        Kind::Words => {
+            let at = u64_at(body, 0) as usize;
+            let s = from(body, 8);
+            writeln!(
+                out,
+                "{n} words {} {} {}",
+                u16_at(s, at),
+                u32_at(s, at),
+                u64_at(s, at)
+            )
+        }
+        Kind::Put => laid(out, n, body),
+        Kind::Bytes => {
+            let low = le4(u32_at(body, 0));
+            let all = le8(u64_at(body, 0));
+            writeln!(out, "{n} laid {} {}", Hex(&low), Hex(&all))
         }
     }
-    Ok(())
+}
+
+// The program keeps nothing from one record to the next.
+#[derive(Drop)]
+struct Leaves;
+
+impl record::Program for Leaves {
+    // The kind is a number: `Program` hands it on as the input has it.
+    fn take<W: Write>(
+        &mut self,
+        out: &mut Printer<W>,
+        n: u64,
+        kind: u16,
+        body: &mut [u8],
+    ) -> io::Result<ControlFlow<()>> {
+        match Kind::try_from(kind) {
+            Ok(kind) => answer(out, n, kind, body)?,
+            Err(_) => writeln!(out, "{n} bad")?,
+        }
+        Ok(ControlFlow::Continue(()))
+    }
+
+    fn bad<W: Write>(&mut self, out: &mut Printer<W>, _n: u64) -> io::Result<()> {
+        writeln!(out, "bad")
+    }
 }
 
 fn main(rt: HostRuntime) -> io::Result<()> {
     let mut input = rt.stdin();
-    let mut to = rt.stdout();
+    let mut out = Printer::new(rt.stdout());
     let mut room = [0u8; 65536];
-    run(&mut input, &mut to, &mut room)
+    record::run(&mut input, &mut out, &mut room, &mut Leaves)
 }

@@ -2,7 +2,6 @@
 -- chip calls, and by `made_count` the counter has grown by as many, up to its largest number.
 use Rattle.std.proofs.Math.Path.{refl}
 use Rattle.std.specs.Prelude.{List, ℕ, suc, ◌<◌, set}
-use Rattle.storage.specs.declared.types.Erased.{Erased}
 use Rattle.storage.specs.World.{Lent, Dev, dev}
 use Rattle.storage.specs.Fold.{base}
 use Rattle.storage.specs.Nor.{freed}
@@ -11,6 +10,7 @@ use Rattle.storage.proofs.Programs.{Call}
 use Rattle.storage.proofs.NandKeeps.{flushes_keeps}
 use Rattle.nand_laws.specs.Made.{Made, none, call, aside}
 use Rattle.nand_laws.specs.Keeps.{flushed_keeps, written_keeps, erased_keeps, read_out_keeps}
+use Rattle.std.specs.Prelude.{Option}
 
 module _ (d : Dev) where
   -- some number of chip calls lead from d to e
@@ -23,7 +23,7 @@ module _ (d : Dev) where
   one_more : (e f : Dev) → Call e f → From e → From f
   one_more e f c m = (suc m.0, call m.1 c)
 
-  noted : (x : Erased) (e : Dev) → From e → From (remember x e)
+  noted : (x : Option ℕ) (e : Dev) → From e → From (remember x e)
   noted x e m = (m.0, aside m.1 refl refl)
 
   let_go : (e : Dev) → From e → From (dev (freed e.store) e.chip e.buf)

@@ -13,7 +13,6 @@ use Rattle.std.proofs.Math.Seq.{drop_at}
 use Rattle.text.proofs.Tokens.{same_self}
 use Rattle.storage.specs.declared.types.Shape.{Shape}
 use Rattle.storage.specs.declared.types.Store.{Store}
-use Rattle.storage.specs.declared.types.Erased.TheVariants.{Block}
 use Rattle.storage.specs.World.{Lent, lent, Dev, dev, out, told, seen}
 use Rattle.storage.specs.Chip.{failing, able, next_call, called, over}
 use Rattle.storage.specs.Nor.{freed}
@@ -24,6 +23,7 @@ use Rattle.storage.proofs.NandCalls.{length_blanks}
 use Rattle.storage.proofs.NandSteps.{checked_done, ready_known, ready_now, burns_done, attempt_burns, once, flush_done}
 use Rattle.storage.proofs.NandMoves.{read_told}
 use Rattle.nand_laws.specs.Within.{Bytes, page_of, block_of, Within}
+use Rattle.std.specs.Prelude.{Some}
 
 -- no call is told to fail, and every block is marked good
 pub record Good (l : Lent) : Type 0 where
@@ -189,15 +189,15 @@ module _ (l : Lent) (d : Dev) (h : Within l d) (held : d.store.held ≡ true) wh
           sym (checked_done l (block_of d) d block_on (sym a) refl (sym e))
 
       pub flush_fresh : flushes l d
-          ≡ out true (dev (freed (called (noting (Block (block_of d)) (called (called d.store))))) (over d.store.at (page_of d) (blanked d)) d.buf)
+          ≡ out true (dev (freed (called (noting (Some (block_of d)) (called (called d.store))))) (over d.store.at (page_of d) (blanked d)) d.buf)
       flush_fresh =
-          flush_good (noting (Block (block_of d)) (called (called d.store))) (blanked d) (sym (ready_now l (block_of d) d other (sym checked_good) refl refl)) refl refl blanked_long blanked_page
+          flush_good (noting (Some (block_of d)) (called (called d.store))) (blanked d) (sym (ready_now l (block_of d) d other (sym checked_good) refl refl)) refl refl blanked_long blanked_page
 
       -- the whole page comes back
       pub read_fresh : (room : List ℕ) → length room ≡ d.store.shape.page → d.store.at + d.store.shape.page ≤ d.store.shape.capacity
           → (e : Dev) × (read_out l d.store.at room d ≡ seen (told 0 d.store.shape.page e) (page_of d))
       read_fresh room q c =
-          let t = freed (called (noting (Block (block_of d)) (called (called d.store)))) in
+          let t = freed (called (noting (Some (block_of d)) (called (called d.store)))) in
           let a = d.store.at in
           let p = d.store.shape.page in
           let new = over a (page_of d) (blanked d) in

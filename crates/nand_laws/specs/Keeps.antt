@@ -7,8 +7,6 @@ use Rattle.std.proofs.Math.Bool.{true, false}
 use Prim.Native.Nat.{ℕ, zero, suc, ◌+◌, ◌-◌, ◌/◌, ◌<◌, min}
 use Rattle.std.proofs.Common.{leb-true}
 use Rattle.std.proofs.Math.ListN.{length, drop}
-use Rattle.storage.specs.declared.types.Erased.{Erased}
-use Rattle.storage.specs.declared.types.Erased.TheVariants.{None}
 use Rattle.storage.specs.World.{Lent, Dev, dev, Out, out, and_then, told, seen}
 use Rattle.storage.specs.Chip.{fetched}
 use Rattle.storage.specs.Fold.{run, base, writes}
@@ -16,6 +14,7 @@ use Rattle.storage.specs.Nor.{freed, pages_of, sat_add}
 use Rattle.storage.specs.Nand.{block_size, remember, erase_checked, flushes, flushed, begins, loads, stays, written, erase_n, erase_range, erased, read_out}
 use Rattle.storage.proofs.Programs.{Call, fetched_number}
 use Rattle.storage.proofs.NandKeeps.{checked_keeps, flushes_keeps, writes_keeps}
+use Rattle.std.specs.Prelude.{Option, None}
 
 -- either of two outcomes, and one after the other
 module _ (P : Dev → Type 0) where
@@ -26,7 +25,7 @@ module _ (P : Dev → Type 0) where
   pub next : (o : Out) (f : Dev → Out) → P o.dev → ((e : Dev) → P e → P (f e).dev) → P (and_then o f).dev
   next o f h k = either o.ok (f o.dev) o (k o.dev h) h
 
-module _ (P : Dev → Type 0) (calls : (d e : Dev) → Call d e → P d → P e) (notes : (x : Erased) (d : Dev) → P d → P (remember x d)) (l : Lent)
+module _ (P : Dev → Type 0) (calls : (d e : Dev) → Call d e → P d → P e) (notes : (x : Option ℕ) (d : Dev) → P d → P (remember x d)) (l : Lent)
     (frees : (d : Dev) → P d → P (dev (freed d.store) d.chip d.buf)) (d : Dev) (start : P d) where
   after_flush_lem : P (flushes l d).dev
   after_flush_lem = flushes_keeps P calls notes l frees d start

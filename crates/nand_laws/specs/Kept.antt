@@ -4,7 +4,6 @@ use Rattle.std.specs.Prelude.{◌≡◌, refl, true, List, ℕ, ◌/◌, ◌%◌
 use Rattle.std.proofs.Common.{sym, ap, subst, ◌∙◌, arith, length-set, length-take-le}
 use Rattle.std.proofs.Math.Nat.{mul-mod_left}
 use Rattle.std.proofs.Math.Seq.{length_front}
-use Rattle.storage.specs.declared.types.Erased.{Erased}
 use Rattle.storage.specs.declared.types.Shape.{Shape}
 use Rattle.storage.specs.declared.types.Store.{Store}
 use Rattle.storage.specs.World.{Lent, Dev, dev}
@@ -18,6 +17,7 @@ use Rattle.storage.proofs.NandCalls.{length_blanks}
 use Rattle.storage.proofs.NandKeeps.{flushes_keeps, sound_as, sound_with}
 use Rattle.storage.proofs.NandMoves.{start_is}
 use Rattle.nand_laws.specs.Keeps.{flushed_keeps, written_keeps, erased_keeps, read_out_keeps}
+use Rattle.std.specs.Prelude.{Option}
 
 -- a held page starts on its boundary, below the capacity
 abbrev pub OnPage : Store → Type 0
@@ -63,7 +63,7 @@ call_kept d e c =
     }
 
 -- another erased block
-note_kept : (x : Erased) (d : Dev) → Kept d (remember x d)
+note_kept : (x : Option ℕ) (d : Dev) → Kept d (remember x d)
 note_kept x d = record { shape = refl; chip = refl; buf = refl; calls = λ h. (omega arith, h); on = λ h. h }
 
 -- a page let go
@@ -89,7 +89,7 @@ module _ (d : Dev) where
   pub onward : (e f : Dev) → Call e f → Kept d e → Kept d f
   onward e f c k = kept_trans k (call_kept e f c)
 
-  pub noted : (x : Erased) (e : Dev) → Kept d e → Kept d (remember x e)
+  pub noted : (x : Option ℕ) (e : Dev) → Kept d e → Kept d (remember x e)
   noted x e k = kept_trans k (note_kept x e)
 
   pub let_go : (e : Dev) → Kept d e → Kept d (dev (freed e.store) e.chip e.buf)

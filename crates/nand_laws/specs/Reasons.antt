@@ -17,8 +17,6 @@ use native.Mathlib.Omega.{arith}
 use Rattle.std.proofs.lemmas.Bool.{eqb-false}
 use Rattle.std.proofs.Math.ListN.{length}
 use Rattle.text.specs.Token.{same}
-use Rattle.storage.specs.declared.types.Erased.{Erased}
-use Rattle.storage.specs.declared.types.Erased.TheVariants.{None, Block}
 use Rattle.storage.specs.declared.types.Shape.{Shape}
 use Rattle.storage.specs.declared.types.Store.{Store}
 use Rattle.storage.specs.World.{Lent, lent, Dev, dev, Out, out, and_then, Told, told, Seen}
@@ -39,6 +37,7 @@ use Rattle.nand_laws.specs.Keeps.{either, next, flushed_keeps, erased_keeps, rea
 use Rattle.nand_laws.specs.Kept.{Kept, flushes_kept, kept_refl, onward, noted, let_go, with_byte, begun}
 use Rattle.nand_laws.specs.Within.{Bytes, page_of, block_of, Within, Inside, bytes_more, within_as, set_within, begin_within, within_free}
 use Rattle.nand_laws.specs.Fresh.{Good, good_blank, block_inside, asks_good_lem, erase_good, page_good, block_on, page_fits, blanked_page}
+use Rattle.std.specs.Prelude.{Option, None, Some}
 
 -- ---- what is told of a failure
 
@@ -195,7 +194,7 @@ module _ (l : Lent) (Asks : ℕ → Type 0) (d : Dev) where
       still_as e f (ap (λ (x : Store). x.shape) c.number) c.size c.buf (ap (λ (x : Store). x.at) c.number) (λ t. ap (λ (x : Store). x.held) (sym c.number) ∙ t)
       (onward d e f c s.kept) s
 
-  notes : (x : Erased) (e : Dev) → Still e → Still (remember x e)
+  notes : (x : Option ℕ) (e : Dev) → Still e → Still (remember x e)
   notes x e s = still_as e (remember x e) refl refl refl refl (λ t. t) (noted d x e s.kept) s
 
   frees : (e : Dev) → Still e → Still (dev (freed e.store) e.chip e.buf)
@@ -220,7 +219,7 @@ module _ (l : Lent) (Asks : ℕ → Type 0) (d : Dev) where
   trying_calls : (e f : Dev) → Call e f → Trying e → Trying f
   trying_calls e f c s = (calls e f c s.0, ap (λ (x : Store). x.held) c.number ∙ s.1)
 
-  trying_notes : (x : Erased) (e : Dev) → Trying e → Trying (remember x e)
+  trying_notes : (x : Option ℕ) (e : Dev) → Trying e → Trying (remember x e)
   trying_notes x e s = (notes x e s.0, s.1)
 
   -- what a try to flush the page leaves: where it failed, no block is remembered
@@ -237,9 +236,9 @@ module _ (l : Lent) (Asks : ℕ → Type 0) (d : Dev) where
       i : Trying x.dev
       i = checked_keeps Trying trying_calls trying_notes l k e s
 
-      go : (b c : Bool) → Left (cond b (out true e) (cond c (out true (remember (Block k) x.dev)) (out false (remember None x.dev))))
+      go : (b c : Bool) → Left (cond b (out true e) (cond c (out true (remember (Some k) x.dev)) (out false (remember None x.dev))))
       go true c = (s, λ z. false_true (sym z))
-      go false true = (trying_notes (Block k) x.dev i, λ z. false_true (sym z))
+      go false true = (trying_notes (Some k) x.dev i, λ z. false_true (sym z))
       go false false = (trying_notes None x.dev i, λ z. refl)
 
   burns_left : (e : Dev) → Trying e → Left (burns l e)
@@ -349,7 +348,7 @@ module _ (l : Lent) (Asks : ℕ → Type 0) (d : Dev) where
     -- a try to flush into a block that has to be erased first
     attempt_fair : (e : Dev) → Trying e → e.store.erased ≡ None → Fair (attempt l e)
     unfolding attempt ready
-    attempt_fair e s none = rw (ap (λ (y : Erased). is_erased y k) none ∙ none_erased k) (go x.ok refl)
+    attempt_fair e s none = rw (ap (λ (y : Option ℕ). is_erased y k) none ∙ none_erased k) (go x.ok refl)
       where
         k : ℕ
         k = block_of e
@@ -357,10 +356,10 @@ module _ (l : Lent) (Asks : ℕ → Type 0) (d : Dev) where
         x : Out
         x = erase_checked l k e
 
-        go : (b : Bool) → x.ok ≡ b → Fair (and_then (cond b (out true (remember (Block k) x.dev)) (out false (remember None x.dev))) (burns l))
+        go : (b : Bool) → x.ok ≡ b → Fair (and_then (cond b (out true (remember (Some k) x.dev)) (out false (remember None x.dev))) (burns l))
         go true u =
-            burns_fair (remember (Block k) x.dev) (trying_notes (Block k) x.dev (checked_keeps Trying trying_calls trying_notes l k e s))
-            (subst (λ (y : Dev). Blank (remember (Block k) y)) (sym (checked_was l k e (block_on l e s.0.within s.1) u)) (blanked_page l e s.0.within s.1))
+            burns_fair (remember (Some k) x.dev) (trying_notes (Some k) x.dev (checked_keeps Trying trying_calls trying_notes l k e s))
+            (subst (λ (y : Dev). Blank (remember (Some k) y)) (sym (checked_was l k e (block_on l e s.0.within s.1) u)) (blanked_page l e s.0.within s.1))
         go false u = λ z. later (le_refl x.dev.store.calls) (checked_fair k e s.0 (s.0.asks s.1) (block_on l e s.0.within s.1) u)
 
     -- a flush: where it fails, so did its second try, which had to erase the block
@@ -648,7 +647,7 @@ module _ (l : Lent) (d : Dev) (w : Within l d) where
 -- ---- examples
 
 -- two blocks of two pages of four bytes
-module _ (e : Erased) (chip buf : List ℕ) (c : length chip ≡ 16) (r : 4 ≤ length buf) where
+module _ (e : Option ℕ) (chip buf : List ℕ) (c : length chip ≡ 16) (r : 4 ≤ length buf) where
   free : (l : Lent) → length l.marks ≡ 2 → Within l (dev (noting e (nand_store 4 2 2 16 0 0)) chip buf)
   free l m = within_free l 4 2 2 16 0 0 e chip buf (omega arith) (omega arith) m c r
 

@@ -4,7 +4,6 @@ use Rattle.std.specs.Prelude.{◌≡◌, true, List, [], ◌∷◌, ◌++◌, �
 use Rattle.std.proofs.Common.{sym, ap, subst, ◌∙◌, mul_comm, arith, length-set, length-take-le, take_at}
 use Rattle.std.proofs.Math.Nat.{mul-mod_left}
 use Rattle.std.proofs.Math.Seq.{length_front, take-set-lt}
-use Rattle.storage.specs.declared.types.Erased.{Erased}
 use Rattle.storage.specs.declared.types.Kind.{Kind}
 use Rattle.storage.specs.declared.types.Kind.TheVariants.{Nand}
 use Rattle.storage.specs.World.{Lent, Dev, dev}
@@ -16,6 +15,7 @@ use Rattle.storage.proofs.Fold.{false_true}
 use Rattle.storage.proofs.Opens.{sound}
 use Rattle.storage.proofs.NandCalls.{length_blanks}
 use Rattle.storage.proofs.NandMoves.{start_is}
+use Rattle.std.specs.Prelude.{Option}
 
 -- ---- what is asked of a state, and of a range
 
@@ -143,7 +143,7 @@ sound_within l d t k b h =
     }
 
 -- as with a store that holds nothing, whatever block was erased last, over any chip of its size and any marks of its blocks
-pub within_free : (l : Lent) (page pages blocks capacity stage device : ℕ) (e : Erased) (chip buf : List ℕ) → 0 < page → 0 < pages → length l.marks ≡ blocks
+pub within_free : (l : Lent) (page pages blocks capacity stage device : ℕ) (e : Option ℕ) (chip buf : List ℕ) → 0 < page → 0 < pages → length l.marks ≡ blocks
     → length chip ≡ blocks * (page * pages) → page ≤ length buf → Within l (dev (noting e (nand_store page pages blocks capacity stage device)) chip buf)
 within_free l page pages blocks capacity stage device e chip buf h k m c r =
     record {

@@ -20,12 +20,11 @@ use Rattle.storage.specs.Store.{good, by_good, flushing, reading}
 use Rattle.storage_laws.specs.Faults.{QuietFrom}
 use Rattle.engine.specs.World.{Given, given, World, world}
 use Rattle.engine.specs.Reply.{status_by, reply_by, replied, ends}
-use Rattle.engine.specs.Command.{is_query, pair_of}
-use Rattle.engine.specs.Storing.{read_fwc, partition_field, target_of, is_meta}
-use Rattle.engine.specs.Exec.{group_of, storing, runs, order_of, performs, execs}
-use Rattle.engine.specs.Frame.{next_of, ripens, heads, fills, gathers}
-use Rattle.engine.specs.Feed.{want_by, turns, then_by, goes, feeds}
-use Rattle.engine.specs.Api.{rooms_ok, frame_ok, said_ok, up_ok, engine_ok, fits, fresh, no_store, opened_nor, writes}
+use Rattle.engine.specs.Storing.{read_fwc, partition_field, target_of}
+use Rattle.engine.specs.Exec.{storing, runs, performs, execs}
+use Rattle.engine.specs.Frame.{ripens, heads, fills, gathers}
+use Rattle.engine.specs.Feed.{turns, then_by, goes, feeds}
+use Rattle.engine.specs.Api.{up_ok, engine_ok, fits, fresh, no_store, opened_nor, writes}
 use Rattle.engine_laws.specs.Bounds.{Call, write, read, after_all, nor_opening}
 use Rattle.transport.specs.Step.{fails, commands, steps}
 use Rattle.promises.specs.Runs.{Act, call, packet, acted_all}
@@ -46,7 +45,7 @@ abbrev room : World
 room = world (fresh 0 no_store) (replicate 8208 0) (replicate 4112 0) (replicate 32768 255) (replicate 4096 0) (replicate 4096 0)
 
 pub accepts : (nor_opening lends room 0x40000000 0 0).number ≡ 0
-unfolding begins any_of utf8_1 utf8_2 utf8_3 utf8_4 utf8_char first_of char_len octets is_utf8 bytes_of le word_at checksum_of header_of accepted parsed parts_of parts total part_ok all lists_ok table_end end_of opens.opened_nor one_of nor_size scratch_ok held_ok in_bounds parts_fit failing able fetched flushes read_out good by_good flushing reading status_by reply_by replied ends is_query pair_of read_fwc group_of storing runs order_of performs execs next_of ripens heads fills gathers want_by turns then_by goes feeds rooms_ok frame_ok said_ok up_ok engine_ok fits opened_nor writes steps commands fails
+unfolding begins any_of utf8_1 utf8_2 utf8_3 utf8_4 utf8_char first_of char_len octets is_utf8 bytes_of le word_at checksum_of header_of accepted parsed parts_of parts total part_ok all lists_ok table_end end_of opens.opened_nor one_of nor_size scratch_ok held_ok in_bounds parts_fit failing able fetched flushes read_out good by_good flushing reading status_by reply_by replied ends read_fwc storing runs performs execs ripens heads fills gathers turns then_by goes feeds up_ok engine_ok fits opened_nor writes steps commands fails
 accepts = refl
 
 -- the header of a request
@@ -62,12 +61,12 @@ abbrev start : World
 start = here lends room 0x40000000 0 0 accepts acts
 
 between : Between start.e
-unfolding acted_all begins any_of utf8_1 utf8_2 utf8_3 utf8_4 utf8_char first_of char_len octets is_utf8 bytes_of le word_at checksum_of header_of accepted parsed parts_of parts total part_ok all lists_ok table_end end_of opens.opened_nor one_of nor_size scratch_ok held_ok in_bounds parts_fit failing able fetched flushes read_out good by_good flushing reading status_by reply_by replied ends is_query pair_of read_fwc group_of storing runs order_of performs execs next_of ripens heads fills gathers want_by turns then_by goes feeds rooms_ok frame_ok said_ok up_ok engine_ok fits opened_nor writes steps commands fails
+unfolding acted_all begins any_of utf8_1 utf8_2 utf8_3 utf8_4 utf8_char first_of char_len octets is_utf8 bytes_of le word_at checksum_of header_of accepted parsed parts_of parts total part_ok all lists_ok table_end end_of opens.opened_nor one_of nor_size scratch_ok held_ok in_bounds parts_fit failing able fetched flushes read_out good by_good flushing reading status_by reply_by replied ends read_fwc storing runs performs execs ripens heads fills gathers turns then_by goes feeds up_ok engine_ok fits opened_nor writes steps commands fails
 between = record { len = refl; total = refl; left = refl }
 
 -- one chip call was made, and it failed
 one_call : start.e.store.calls ≡ 1
-unfolding acted_all begins any_of utf8_1 utf8_2 utf8_3 utf8_4 utf8_char first_of char_len octets is_utf8 bytes_of le word_at checksum_of header_of accepted parsed parts_of parts total part_ok all lists_ok table_end end_of opens.opened_nor one_of nor_size scratch_ok held_ok in_bounds parts_fit failing able fetched flushes read_out good by_good flushing reading status_by reply_by replied ends is_query pair_of read_fwc group_of storing runs order_of performs execs next_of ripens heads fills gathers want_by turns then_by goes feeds rooms_ok frame_ok said_ok up_ok engine_ok fits opened_nor writes steps commands fails
+unfolding acted_all begins any_of utf8_1 utf8_2 utf8_3 utf8_4 utf8_char first_of char_len octets is_utf8 bytes_of le word_at checksum_of header_of accepted parsed parts_of parts total part_ok all lists_ok table_end end_of opens.opened_nor one_of nor_size scratch_ok held_ok in_bounds parts_fit failing able fetched flushes read_out good by_good flushing reading status_by reply_by replied ends read_fwc storing runs performs execs ripens heads fills gathers turns then_by goes feeds up_ok engine_ok fits opened_nor writes steps commands fails
 one_call = refl
 
 quiet : QuietFrom (1 ∷ 0 ∷ []) start.e.store.calls
@@ -90,7 +89,7 @@ abbrev second : List ℕ
 second = asks 0x12 3 ++ payload
 
 is_metadata : MetaFrame lends 8192 first
-unfolding header_of bytes_of le word_at checksum_of accepted parsed is_meta same target_of partition_field until lookup parts_of is_utf8 octets char_len first_of utf8_char utf8_1 utf8_2 utf8_3 utf8_4 any_of begins trim trim_start trim_end lead keep blank_len code_point white_space lists_ok total all parts part_ok find wanted
+unfolding header_of bytes_of le word_at checksum_of accepted parsed same target_of partition_field until lookup parts_of is_utf8 octets char_len first_of utf8_char utf8_1 utf8_2 utf8_3 utf8_4 any_of begins trim trim_start trim_end lead keep blank_len code_point white_space lists_ok total all parts part_ok find wanted
 is_metadata =
     record {
       head = asks 0x10 512;

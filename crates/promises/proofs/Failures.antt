@@ -8,8 +8,7 @@ use mathlib.Core.List.{List, ◌++◌}
 use borrow.Author.Tests.{ne_eqb}
 use Rattle.std.proofs.Math.ListN.{length}
 use Rattle.std.proofs.lemmas.List.Edits.{sets}
-use Rattle.wire.specs.Header.{parsed}
-use Rattle.wire.specs.declared.header.Header.TheVariants as header
+use Rattle.wire.specs.Header.{request_of, parsed}
 use Rattle.engine.specs.declared.frame.Next.TheVariants.{Send}
 use Rattle.engine.specs.World.{Given, World, with_up, at_e, Out, out_of}
 use Rattle.engine.specs.Reply.{Answer, fail, status_by, reply_by, replied, ends}
@@ -20,15 +19,16 @@ use Rattle.engine.specs.Feed.{feeds}
 use Rattle.engine.specs.Api.{fits, writes}
 use Rattle.engine.proofs.Tidies.{runs_tidy}
 use Rattle.engine_laws.specs.Bounds.{in_bounds, write_feeds}
-use Rattle.engine_laws.specs.Whole.{at_request, emptied_at, between_is, header_done, frame_done}
+use Rattle.engine_laws.specs.Whole.{at_request, emptied_at, header_done, frame_done}
 use Rattle.promises.specs.Frames.{Between}
 use Rattle.promises.specs.Update.{waiting, laid_waits}
 use Rattle.promises.specs.Kept.{fail_length}
+use Rattle.promises.proofs.Frames.{between_same}
 use Rattle.promises.specs.Failures.{found as found_by, Opened, Denied}
 
 -- ---- a command that fails
 
-module _ (g : Given) (v : World) (f : fits g v ≡ true) (b : Between v.e) (h m : List ℕ) (n : length h ≡ 16) (c s : ℕ) (p : parsed h ≡ header.Request c s (length m))
+module _ (g : Given) (v : World) (f : fits g v ≡ true) (b : Between v.e) (h m : List ℕ) (n : length h ≡ 16) (c s : ℕ) (p : parsed h ≡ request_of c s (length m))
     (o : c ≡ 0x12 → ⊥) (t : length m ≤ 8192) where
   -- as a command finds the world
   abbrev found : World
@@ -37,7 +37,7 @@ module _ (g : Given) (v : World) (f : fits g v ≡ true) (b : Between v.e) (h m 
   whole : writes g v (h ++ m) ≡ answered c (runs g c m found)
   whole =
       write_feeds g v f (h ++ m)
-      ∙ ap (λ (x : World). feeds g x (h ++ m)) (sym (between_is v (λ i. record { len = b.len i; total = b.total i })))
+      ∙ ap (λ (x : World). feeds g x (h ++ m)) (sym (between_same v b))
       ∙ frame_done g v b.left h m n (omega (arith, (in_bounds g v f).fit.mid.request)) c s p o t
 
   -- what a command answers is told: the write returns its status, and its reply waits
@@ -56,7 +56,7 @@ module _ (g : Given) (v : World) (f : fits g v ≡ true) (b : Between v.e) (h m 
 
 -- ---- SEND_FWC_DATA's header
 
-module _ (g : Given) (v : World) (f : fits g v ≡ true) (b : Between v.e) (h : List ℕ) (k : length h ≡ 16) (s n : ℕ) (p : parsed h ≡ header.Request 0x12 s n) (j : n < 2 ^ 32) where
+module _ (g : Given) (v : World) (f : fits g v ≡ true) (b : Between v.e) (h : List ℕ) (k : length h ≡ 16) (s n : ℕ) (p : parsed h ≡ request_of 0x12 s n) (j : n < 2 ^ 32) where
   abbrev headed : World
   headed = at_request (sets v.request 0 h) (emptied_at v)
 
@@ -64,13 +64,12 @@ module _ (g : Given) (v : World) (f : fits g v ≡ true) (b : Between v.e) (h : 
   opened = at_e (with_up (started n v.e.up) headed.e) headed
 
   send_next : next_of h ≡ Send n
-  unfolding next_of
   send_next = ap next_by p ∙ ap Send (omega arith)
 
   send_is : writes g v h ≡ cond v.e.up.valid (streamed_by g.lent opened) (ends 0x12 fail headed)
   unfolding begins
   send_is =
-      write_feeds g v f h ∙ ap (λ (x : World). feeds g x h) (sym (between_is v (λ i. record { len = b.len i; total = b.total i })))
+      write_feeds g v f h ∙ ap (λ (x : World). feeds g x h) (sym (between_same v b))
       ∙ header_done g v b.left h k (omega (arith, (in_bounds g v f).fit.mid.request)) ∙ ap (headed_by g (grown (emptied_at v) h)) send_next
 
   -- "With metadata it zeroes written, crc, burn and run, and the next `length` bytes are payload"

@@ -1,6 +1,6 @@
 -- Of specs/Frames.antt: the theorems that rest on what `Between` and `Untouched` say. They stand here, so that a wrong `Between` or
 -- `Untouched` (must-fail/) is refused by them and not unread.
-use Rattle.std.specs.Prelude.{◌≡◌, Bool, ltb, length}
+use Rattle.std.specs.Prelude.{◌≡◌, Option, None, Some, Bool, ltb, length}
 use Rattle.std.proofs.Math.Path.{refl, sym, ap, subst}
 use Rattle.std.proofs.Common.{◌∙◌, arith}
 use Rattle.std.proofs.Math.Bool.{true, false, cond}
@@ -12,8 +12,6 @@ use Rattle.std.proofs.Math.ListN.{take, drop}
 use Rattle.std.proofs.lemmas.List.Edits.{sets}
 use Rattle.storage_laws.specs.Bounds.{either}
 use Rattle.engine.specs.declared.types.Frame.{Frame}
-use Rattle.engine.specs.declared.exec.Order.{Order}
-use Rattle.engine.specs.declared.exec.Order.TheVariants.{Bad, Run}
 use Rattle.engine.specs.declared.frame.Next.{Next}
 use Rattle.engine.specs.declared.frame.Next.TheVariants.{Refused, Send, Total}
 use Rattle.engine.specs.World.{Given, World, with_up, emptied, at_e, Out, out_of}
@@ -25,7 +23,12 @@ use Rattle.engine.specs.Feed.{turns, cut_of, then_by, goes, feeds}
 use Rattle.engine.specs.Api.{fits, writes, cleared}
 use Rattle.engine.proofs.Tidies.{runs_tidy}
 use Rattle.engine_laws.specs.Bounds.{write_fits, reset_fits, Call, after_all}
+use Rattle.engine_laws.specs.Whole.{emptied_at, between_is}
 use Rattle.promises.specs.Frames.{header_at, Untouched, alike_on, reset_between, Between, Heading, Begun, Alike, NoReset, sent_by, runs_same, one_fits, heading_judged, heading_gathers, refused_keeps, refused_spelled, behind_heading, behind_cut, header_is, begun_run, head_few, alike_refl}
+
+-- between frames there is no part of one to drop
+pub between_same : (w : World) → Between w.e → emptied_at w ≡ w
+between_same w b = between_is w (λ i. record { len = b.len i; total = b.total i })
 
 module _ (g : Given) where
   -- ---- status 1
@@ -61,9 +64,9 @@ module _ (g : Given) where
     unfolding execs
     execs_ended = go (order_of (take w.e.frame.total w.request))
       where
-        go : (o : Order) → Ended (exec_by g w o)
-        go Bad = λ z. record { len = refl; total = refl; left = h }
-        go (Run c n) = performs_ended c n
+        go : (o : Option (ℕ × ℕ)) → Ended (exec_by g w o)
+        go None = λ z. record { len = refl; total = refl; left = h }
+        go (Some (c, n)) = performs_ended c n
 
     ripens_ended : Ended (ripens g w)
     unfolding ripens

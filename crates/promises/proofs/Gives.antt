@@ -1,8 +1,7 @@
 -- Of specs/Gives.antt: what a write answers and leaves, for each reason. It rests on Failures.antt beside this file, and stands here with it.
 use Rattle.std.specs.Prelude.{◌≡◌, true, false, List, ◌++◌, ℕ, ◌≤◌, length, replicate}
 use Rattle.std.proofs.Common.{arith}
-use Rattle.wire.specs.Header.{reply_magic, header_of, parsed}
-use Rattle.wire.specs.declared.header.Header.TheVariants as header
+use Rattle.wire.specs.Header.{reply_magic, header_of, request_of, parsed}
 use Rattle.storage.specs.Open.{one_of}
 use Rattle.engine.specs.World.{Given, World}
 use Rattle.engine.specs.Reply.{unsupported, odd, status_by, reply_by}
@@ -15,7 +14,7 @@ use Rattle.promises.proofs.Failures.{answer_told, fail_told}
 use Rattle.promises.specs.Gives.{why_fails, large_odd, unknown_unsupported, odd_length, unsupported_length}
 
 -- between frames, a frame of a command on its data, which finds the world as `found` says
-module _ (g : Given) (v : World) (f : fits g v ≡ true) (b : Between v.e) (h m : List ℕ) (n : length h ≡ 16) (c s : ℕ) (p : parsed h ≡ header.Request c s (length m))
+module _ (g : Given) (v : World) (f : fits g v ≡ true) (b : Between v.e) (h m : List ℕ) (n : length h ≡ 16) (c s : ℕ) (p : parsed h ≡ request_of c s (length m))
     (o : c ≡ 0x12 → ⊥) (t : length m ≤ 8192) where
   abbrev finds : World
   finds = found g v f b h m n c s p o t

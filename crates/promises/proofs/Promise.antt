@@ -13,11 +13,12 @@ use Rattle.engine_laws.specs.Bounds.{Call, after_all, in_bounds, write_feeds, no
 use Rattle.engine_laws.specs.Carry.{feeds_left}
 use Rattle.engine_laws.specs.Split.{On, on_start, on_closed}
 use Rattle.engine_laws.specs.Cut.{Quiet, Room, cut_quiet, quiet_feeds, quiet_steady}
-use Rattle.engine_laws.specs.Whole.{emptied_at, between_is}
+use Rattle.engine_laws.specs.Whole.{between_is}
 use Rattle.promises.specs.Runs.{Act}
 use Rattle.promises.specs.Frames.{Between, sent_by, NoReset}
 use Rattle.promises.specs.Cuts.{Answered, Smooth, smooth_append, Carried, carried}
 use Rattle.promises.specs.Update.{MetaFrame, SendFrame, Ready, Aimed, Landed, placed_at, meta_done, meta_smooth, send_smooth}
+use Rattle.promises.proofs.Frames.{between_same}
 use Rattle.promises.proofs.Update.{send_done}
 use Rattle.promises.specs.Queries.{Question, Queries, last_of, Replied, feeds_fits}
 use Rattle.promises.proofs.Queries.{queries_done}
@@ -27,9 +28,6 @@ use Rattle.promises.specs.Promise.{here, here_fits, here_quiet, here_capacity, h
 
 module _ (g : Given) (w : World) (f : fits g w ≡ true) (b : Between w.e) (q : Quiet g w) (most : length w.chip ≤ w.e.store.shape.capacity)
     (B : ℕ) (p M D : List ℕ) (m : MetaFrame g B M) (d : SendFrame p D) (i : B + length p ≤ length w.chip) where
-  same : emptied_at w ≡ w
-  same = between_is w (λ t. record { len = b.len t; total = b.total t })
-
   -- the flash at the metadata's reply
   abbrev pub flash : List ℕ
   flash = (feeds g w M).w.chip
@@ -37,7 +35,7 @@ module _ (g : Given) (w : World) (f : fits g w ≡ true) (b : Between w.e) (q : 
   aimed : Aimed B (view (dev_of w)) (feeds g w M)
   aimed =
       let r = (in_bounds g w f).fit.mid in
-      subst (λ (x : World). Aimed B (view (dev_of w)) (feeds g x M)) same (meta_done g w b.left q r.request r.reply B M m)
+      subst (λ (x : World). Aimed B (view (dev_of w)) (feeds g x M)) (between_same w b) (meta_done g w b.left q r.request r.reply B M m)
 
   -- the engine at the metadata's reply
   abbrev v : World
@@ -71,7 +69,7 @@ module _ (g : Given) (w : World) (f : fits g w ≡ true) (b : Between w.e) (q : 
       (send_done g v B flash ready (quiet_feeds g w M q) r.request r.reply p D d v_chip v_capacity)
 
   meta_cut : Smooth g w M
-  meta_cut = let r = (in_bounds g w f).fit.mid in subst (λ (x : World). Smooth g x M) same (meta_smooth g w b.left q r.request r.reply B M m)
+  meta_cut = let r = (in_bounds g w f).fit.mid in subst (λ (x : World). Smooth g x M) (between_same w b) (meta_smooth g w b.left q r.request r.reply B M m)
 
   both_cut : Smooth g w (M ++ D)
   both_cut =

@@ -56,7 +56,6 @@ module _ (g : Given) (v : World) (B : ℕ) (c : List ℕ) (a : Ready B c v) (q :
     stored = let t = a.target in write_still g.lent (dev_of v) q (v.e.up.target + 0) p (omega arith) (omega arith)
 
     full_burn : burn_by 0 all.count (length p) ≡ 0
-    unfolding burn_by
     full_burn = ap (λ (b : Bool). cond b 0 (cond (eqb 0 0) 1 0)) (eq-eqb all.count (length p) stored.0)
 
     send_some : Landed p (placed_at B p c) (feeds g (emptied_at v) (k.head ++ p))

@@ -2,7 +2,7 @@
 -- command once, test by test as the definitions go; `fail_why`, `odd_why` and `unsupported_why` are its three cases.
 use Rattle.std.proofs.Math.Path.{◌≡◌, refl}
 use Rattle.std.proofs.Common.{sym, subst, length-take}
-use Rattle.std.specs.Prelude.{Bool, true, false, ◌&&◌, ◌||◌, ◌⊎◌, leb, eqb, take, drop}
+use Rattle.std.specs.Prelude.{Option, None, Some, Result, Ok, Err, Bool, true, false, ◌&&◌, ◌||◌, ◌⊎◌, leb, eqb, take, drop}
 use Rattle.std.proofs.Math.Bool.{cond}
 use mathlib.Core.List.{List, [], ◌∷◌, ◌++◌}
 use Rattle.std.proofs.Math.Logic.{inl, inr}
@@ -18,26 +18,20 @@ use Rattle.storage.specs.World.{Told}
 use Rattle.storage.specs.Open.{one_of}
 use Rattle.storage.specs.Store.{flushing, erasing}
 use Rattle.storage.specs.Partition.{lookup}
-use Rattle.storage.specs.declared.partition.Found.{Found}
-use Rattle.storage.specs.declared.partition.Found.TheVariants as found
+use Rattle.storage.specs.declared.types.CallError.{CallError}
 use Rattle.engine.specs.declared.exec.Group.{Group}
-use Rattle.engine.specs.declared.command.Pair.{Pair}
-use Rattle.engine.specs.declared.command.Pair.TheVariants.{Cut, Both}
 use Rattle.engine.specs.declared.command.Short.{Short}
 use Rattle.engine.specs.declared.command.Short.TheVariants as short
 use Rattle.engine.specs.declared.shell.Line.{Line}
 use Rattle.engine.specs.declared.shell.Line.TheVariants as line
-use Rattle.engine.specs.declared.shell.Text.{Text}
-use Rattle.engine.specs.declared.shell.Text.TheVariants as text
 use Rattle.engine.specs.declared.shell.Window.{Window}
-use Rattle.engine.specs.declared.shell.Window.TheVariants as window
 use Rattle.engine.specs.World.{Given, World, with_flags, at_e, dev_of, at_dev}
 use Rattle.engine.specs.Reply.{Answer, ok, fail, unsupported, odd, sent, whether, Ran, ran}
-use Rattle.engine.specs.Command.{table_text, short_by, short_of, long_by, long_of, plain_by, plain, pair_of, inside, read_by, read_of, Wrote, wrote, write_by, write_of}
+use Rattle.engine.specs.Command.{table_text, short_of, long_by, long_of, plain_by, plain, pair_of, inside, read_by, read_of, Wrote, wrote, write_by, write_of}
 use Rattle.engine.specs.Storing.{after_flush, end_upgrade, crc_query, probed, read_fwc_by, read_fwc, erased_by, erase_storage, partition_field, found_at, target_by, target_of, answer_to, aims, is_meta, set_meta}
-use Rattle.engine.specs.Shell.{text_of, line_of, window_of, is_reset}
+use Rattle.engine.specs.Shell.{line_of, window_of, is_reset}
 use Rattle.engine.specs.Running.{run_erase, run_write, run_read, run_boot, run_by, run_line, shell_by, shell}
-use Rattle.engine.specs.Exec.{group_of, wrote_by, memory, storing, runs_by, runs}
+use Rattle.engine.specs.Exec.{wrote_by, memory, storing, runs_by, runs}
 use Rattle.promises.specs.Why.{line_in, LineWhy, Off, cut_to, out_told, in_told, Unflushed, OutWhy, InWhy, RunWhy, Beyond, meta_in, Why, Large, of_scratch, of_shell, of_storage, of_word, of_more, known, Says, out_window, out_short, out_flush, in_window, in_short, write_cut, write_less, write_beyond, read_cut, read_beyond, shell_cut, shell_less, shell_text, shell_line_lem, shell_run, end_flush, meta_cut, meta_magic, meta_flush, meta_unknown, crc_flush, table_none, fwc_cut, erase_cut, erase_flush, erase_failed, read_large, table_large}
 use Rattle.promises.specs.Picked.{picked, and_false, or_false, or_later, and_both}
 use Rattle.promises.specs.Lines.{Lined, line_lined}
@@ -74,7 +68,6 @@ module _ (g : Given) (c : ℕ) (bytes : List ℕ) (w : World) where
 
   -- where the window is not inside, and where it is
   pub beyond : (addr len : ℕ) → inside w.e.base (length w.scratch) addr len ≡ false → Beyond w addr len
-  unfolding inside
   beyond addr len e = go (and_false _ _ e)
     where
       go : (leb w.e.base addr ≡ false) ⊎ (leb (addr + len) (w.e.base + length w.scratch) ≡ false) → Beyond w addr len
@@ -82,7 +75,6 @@ module _ (g : Given) (c : ℕ) (bytes : List ℕ) (w : World) where
       go (inr h) = inr (leb-false (addr + len) (w.e.base + length w.scratch) h)
 
   pub not_beyond : (addr len : ℕ) → inside w.e.base (length w.scratch) addr len ≡ true → Beyond w addr len → ⊥
-  unfolding inside
   not_beyond addr len e = go (leb-true w.e.base addr h.0) (leb-true (addr + len) (w.e.base + length w.scratch) h.1)
     where
       h : (leb w.e.base addr ≡ true) × (leb (addr + len) (w.e.base + length w.scratch) ≡ true)
@@ -93,9 +85,8 @@ module _ (g : Given) (c : ℕ) (bytes : List ℕ) (w : World) where
       go p q (inr r) = omega arith
 
   -- the pair, or fewer than eight bytes
-  pub pair_says : (P : Pair → Type 0) → (8 ≤ length bytes → P (Both (word_at 4 bytes 0) (word_at 4 bytes 4))) → (length bytes < 8 → P Cut) → P (pair_of bytes)
-  unfolding pair_of
-  pair_says P h k = picked P (leb 8 (length bytes)) (Both (word_at 4 bytes 0) (word_at 4 bytes 4)) Cut (λ e. h (leb-true 8 (length bytes) e)) (λ e. k (leb-false 8 (length bytes) e))
+  pub pair_says : (P : Option (ℕ × ℕ) → Type 0) → (8 ≤ length bytes → P (Some (word_at 4 bytes 0, word_at 4 bytes 4))) → (length bytes < 8 → P None) → P (pair_of bytes)
+  pair_says P h k = picked P (leb 8 (length bytes)) (Some (word_at 4 bytes 0, word_at 4 bytes 4)) None (λ e. h (leb-true 8 (length bytes) e)) (λ e. k (leb-false 8 (length bytes) e))
 
   -- more data than a reply takes
   sent_says : (xs : List ℕ) → (4096 < length xs → Large g c bytes w) → HasRow (sent xs)
@@ -116,7 +107,7 @@ module _ (g : Given) (c : ℕ) (bytes : List ℕ) (w : World) where
       refused (inl h) = write_less n (let k = leb-false m (length bytes - 8) h in omega arith)
       refused (inr h) = write_beyond n (beyond a m h)
 
-      both : HasRow (write_by w.e.base w.scratch bytes (Both a m)).answer
+      both : HasRow (write_by w.e.base w.scratch bytes (Some (a, m))).answer
       both =
           picked (λ (r : Wrote). HasRow r.answer) (leb m (length bytes - 8) && inside w.e.base (length w.scratch) a m) _ (wrote fail w.scratch) (λ e. tt)
           (λ e. refused (and_false _ _ e))
@@ -134,7 +125,7 @@ module _ (g : Given) (c : ℕ) (bytes : List ℕ) (w : World) where
       s : List ℕ
       s = take m (drop (a - w.e.base) w.scratch)
 
-      both : 8 ≤ length bytes → HasRow (read_by w.e.base w.scratch (Both a m))
+      both : 8 ≤ length bytes → HasRow (read_by w.e.base w.scratch (Some (a, m)))
       both i =
           picked HasRow (inside w.e.base (length w.scratch) a m) (cond (leb m 4112) (sent s) (ok [])) fail
           (λ e. picked HasRow (leb m 4112) (sent s) (ok [])
@@ -174,13 +165,13 @@ module _ (g : Given) (c : ℕ) (bytes : List ℕ) (w : World) where
   unfolding target_of
   target_says n = go (partition_field (meta_in bytes)) refl
     where
-      unknown : (b : ℕ) (f : List ℕ) → partition_field (meta_in bytes) ≡ b ∷ f → ((o : ℕ) → lookup g.lists (b ∷ f) ≡ found.At o → ⊥) → Why g c bytes w
+      unknown : (b : ℕ) (f : List ℕ) → partition_field (meta_in bytes) ≡ b ∷ f → ((o : ℕ) → lookup g.lists (b ∷ f) ≡ Ok (Some o) → ⊥) → Why g c bytes w
       unknown b f p h = meta_unknown n (λ q. let z : ◌≡◌ {A = ℕ} 0 1 = cc in omega arith) (rw p h)
 
-      by : (b : ℕ) (f : List ℕ) → partition_field (meta_in bytes) ≡ b ∷ f → (x : Found) → lookup g.lists (b ∷ f) ≡ x → HasRow (answer_to (found_at x))
-      by b f p (found.At o) e = tt
-      by b f p found.Nothing e = unknown b f p (λ o q. let z : ◌≡◌ {A = ℕ} 0 1 = cc in omega arith)
-      by b f p found.Refused e = unknown b f p (λ o q. let z : ◌≡◌ {A = ℕ} 0 1 = cc in omega arith)
+      by : (b : ℕ) (f : List ℕ) → partition_field (meta_in bytes) ≡ b ∷ f → (x : Result (Option ℕ) CallError) → lookup g.lists (b ∷ f) ≡ x → HasRow (answer_to (found_at x))
+      by b f p (Ok (Some o)) e = tt
+      by b f p (Ok None) e = unknown b f p (λ o q. let z : ◌≡◌ {A = ℕ} 0 1 = cc in omega arith)
+      by b f p (Err x) e = unknown b f p (λ o q. let z : ◌≡◌ {A = ℕ} 0 1 = cc in omega arith)
 
       go : (f : List ℕ) → partition_field (meta_in bytes) ≡ f → HasRow (answer_to (target_by g.lists f))
       go [] p = tt
@@ -198,10 +189,9 @@ module _ (g : Given) (c : ℕ) (bytes : List ℕ) (w : World) where
   -- ---- the shell
 
   -- the window, or an address off scratch
-  pub window_says : (addr len : ℕ) (P : Window → Type 0) → ((Off w addr → ⊥) → P (window.At (addr - w.e.base) (cut_to w addr len))) → (Off w addr → P window.Out)
+  pub window_says : (addr len : ℕ) (P : Option Window → Type 0) → ((Off w addr → ⊥) → P (Some (record { place = addr - w.e.base; len = cut_to w addr len }))) → (Off w addr → P None)
       → P (window_of w.e.base (length w.scratch) addr len)
-  unfolding window_of
-  window_says addr len P h k = picked P (leb w.e.base addr && ltb addr (w.e.base + length w.scratch)) _ window.Out (λ e. h (on (and_both _ _ e))) (λ e. k (off (and_false _ _ e)))
+  window_says addr len P h k = picked P (leb w.e.base addr && ltb addr (w.e.base + length w.scratch)) _ None (λ e. h (on (and_both _ _ e))) (λ e. k (off (and_false _ _ e)))
     where
       on : (leb w.e.base addr ≡ true) × (ltb addr (w.e.base + length w.scratch) ≡ true) → Off w addr → ⊥
       on y (inl x) = let k = leb-true w.e.base addr y.0 in omega arith
@@ -216,7 +206,7 @@ module _ (g : Given) (c : ℕ) (bytes : List ℕ) (w : World) where
   asks = at_e (with_flags w.e.upgrading (w.e.asked || is_reset (line_in bytes)) w.e) w
 
   module _ (n : c ≡ 0x05) where
-    out_says : (off len addr : ℕ) → line_of (line_in bytes) ≡ line.Write off len addr → HasRow (run_write g.lent off (window_of w.e.base (length w.scratch) addr len) asks).answer
+    out_says : (off len addr : ℕ) → line_of (line_in bytes) ≡ Some (line.Write off len addr) → HasRow (run_write g.lent off (window_of w.e.base (length w.scratch) addr len) asks).answer
     unfolding run_write
     out_says off len addr e = window_says addr len (λ x. HasRow (run_write g.lent off x asks).answer) (λ i. at) (λ h. why (out_window h))
       where
@@ -229,13 +219,13 @@ module _ (g : Given) (c : ℕ) (bytes : List ℕ) (w : World) where
         f : Told
         f = flushing g.lent t.dev
 
-        at : HasRow (run_write g.lent off (window.At (addr - w.e.base) (cut_to w addr len)) asks).answer
+        at : HasRow (run_write g.lent off (Some (record { place = addr - w.e.base; len = cut_to w addr len })) asks).answer
         at =
             let u = at_dev t.dev asks in
             picked (λ (r : Ran). HasRow r.answer) (eqb t.count (cut_to w addr len)) (ran (whether (eqb f.status 0)) (at_dev f.dev u)) (ran fail u)
             (λ k. whether_says (eqb f.status 0) (λ x. why (out_flush (eqb-false f.status 0 x)))) (λ k. why (out_short (eqb-false t.count (cut_to w addr len) k)))
 
-    in_says : (off len addr : ℕ) → line_of (line_in bytes) ≡ line.Read off len addr → HasRow (run_read g.lent off (window_of w.e.base (length w.scratch) addr len) asks).answer
+    in_says : (off len addr : ℕ) → line_of (line_in bytes) ≡ Some (line.Read off len addr) → HasRow (run_read g.lent off (window_of w.e.base (length w.scratch) addr len) asks).answer
     unfolding run_read
     in_says off len addr e =
         let why : InWhy g.lent w off len addr → Why g c bytes w = λ h. shell_run n (subst (RunWhy g.lent w) (sym e) h) in
@@ -243,26 +233,26 @@ module _ (g : Given) (c : ℕ) (bytes : List ℕ) (w : World) where
         window_says addr len (λ x. HasRow (run_read g.lent off x asks).answer)
         (λ i. whether_says (eqb t.count (cut_to w addr len)) (λ x. why (in_short (eqb-false t.count (cut_to w addr len) x)))) (λ h. why (in_window h))
 
-    boot_says : (addr len : ℕ) → line_of (line_in bytes) ≡ line.Boot addr len → HasRow (run_boot (window_of w.e.base (length w.scratch) addr len) asks).answer
+    boot_says : (addr len : ℕ) → line_of (line_in bytes) ≡ Some (line.Boot addr len) → HasRow (run_boot (window_of w.e.base (length w.scratch) addr len) asks).answer
     unfolding run_boot
     boot_says addr len e = window_says addr len (λ x. HasRow (run_boot x asks).answer) (λ i. tt) (λ h. shell_run n (subst (RunWhy g.lent w) (sym e) h))
 
-    run_says : (x : Line) → line_of (line_in bytes) ≡ x → Lined (LineWhy (tokens_of (line_in bytes))) x → HasRow (run_by g.lent asks x).answer
+    run_says : (x : Option Line) → line_of (line_in bytes) ≡ x → Lined (LineWhy (tokens_of (line_in bytes))) x → HasRow (run_by g.lent asks x).answer
     unfolding run_erase
-    run_says line.Bad e h = shell_line_lem n h
-    run_says line.Done e h = tt
-    run_says (line.Erase start size) e h =
+    run_says None e h = shell_line_lem n h
+    run_says (Some line.Done) e h = tt
+    run_says (Some (line.Erase start size)) e h =
         let t = erasing g.lent start size (dev_of w) in
         whether_says (eqb t.status 0) (λ x. shell_run n (subst (RunWhy g.lent w) (sym e) (eqb-false t.status 0 x)))
-    run_says (line.Write off len addr) e h = out_says off len addr e
-    run_says (line.Read off len addr) e h = in_says off len addr e
-    run_says (line.Boot addr len) e h = boot_says addr len e
+    run_says (Some (line.Write off len addr)) e h = out_says off len addr e
+    run_says (Some (line.Read off len addr)) e h = in_says off len addr e
+    run_says (Some (line.Boot addr len)) e h = boot_says addr len e
 
     shell_says : HasRow (shell g.lent bytes w).answer
-    unfolding shell text_of run_line
+    unfolding shell run_line
     shell_says =
-        picked (λ (x : Text). HasRow (shell_by g.lent bytes w x).answer)
-        (leb 4 (length bytes) && (leb (4 + word_at 4 bytes 0) (length bytes) && is_utf8 (line_in bytes))) (text.Len (word_at 4 bytes 0)) text.Bad
+        picked (λ (x : Option ℕ). HasRow (shell_by g.lent bytes w x).answer)
+        (leb 4 (length bytes) && (leb (4 + word_at 4 bytes 0) (length bytes) && is_utf8 (line_in bytes))) (Some (word_at 4 bytes 0)) None
         (λ e. run_says (line_of (line_in bytes)) refl (line_lined (line_in bytes))) (λ e. bad (and_false _ _ e))
       where
         rest : (leb (4 + word_at 4 bytes 0) (length bytes) ≡ false) ⊎ (is_utf8 (line_in bytes) ≡ false) → Why g c bytes w
@@ -276,7 +266,6 @@ module _ (g : Given) (c : ℕ) (bytes : List ℕ) (w : World) where
   -- ---- the commands that touch the reply alone
 
   text_says : c ≡ 0x17 → HasRow (table_text g.table)
-  unfolding table_text
   text_says n = go g.table refl
     where
       go : (t : List ℕ) → g.table ≡ t → HasRow (table_text t)
@@ -291,7 +280,7 @@ module _ (g : Given) (c : ℕ) (bytes : List ℕ) (w : World) where
     Shorts (short.Word x) = Unit {0}
 
     short_says : Shorts (short_of c w.e)
-    unfolding short_by short_of one_of
+    unfolding one_of
     short_says =
         picked Shorts (eqb c 0x08) _ _ (λ _. tt)
         (λ h₁. picked Shorts (eqb c 0x09) _ _ (λ _. tt)
@@ -347,7 +336,7 @@ module _ (g : Given) (c : ℕ) (bytes : List ℕ) (w : World) where
 
   -- "a refusal or fail reply still needs a reason that these papers name": what any command answers is OK, or has its row
   pub runs_says : Says (Why g c bytes w) (one_of known c ≡ false) (Large g c bytes w) (runs g c bytes w).answer
-  unfolding runs group_of
+  unfolding runs
   runs_says =
       let T : Group → Type 0 = λ x. HasRow (runs_by g c bytes w x).answer in
       picked T (one_of of_scratch c) _ _ memory_says

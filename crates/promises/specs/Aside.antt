@@ -7,7 +7,7 @@
 -- then what it leaves differs in `said` alone.
 --   A read is such a change of `said` (`read_at_said`). So before a write that lays a reply it may be left out, and before any other it
 -- may as well come behind it (`read_aside`); and in any run of calls all reads may be left out (`reads_unread`).
-use Rattle.std.specs.Prelude.{◌≡◌, Bool, true, false, ◌||◌, ◌⊎◌, leb, ltb, eqb, length, replicate}
+use Rattle.std.specs.Prelude.{◌≡◌, Option, None, Some, Result, Ok, Bool, true, false, ◌||◌, ◌⊎◌, leb, ltb, eqb, length, replicate}
 use Rattle.std.proofs.Math.Path.{refl, ap, subst}
 use Rattle.std.proofs.Common.{sym, ◌∙◌}
 use Rattle.std.proofs.Math.Bool.{cond}
@@ -24,26 +24,19 @@ use Rattle.storage.specs.Scratch.{from_scratch}
 use Rattle.storage.specs.Partition.{Lists}
 use Rattle.storage_laws.specs.Bounds.{either}
 use Rattle.engine.specs.declared.types.Said.{Said}
+use Rattle.storage.specs.declared.types.CallError.{CallError}
 use Rattle.engine.specs.declared.exec.Group.{Group}
 use Rattle.engine.specs.declared.exec.Group.TheVariants as group
-use Rattle.engine.specs.declared.exec.Order.{Order}
-use Rattle.engine.specs.declared.exec.Order.TheVariants.{Bad, Run}
 use Rattle.engine.specs.declared.frame.Next.{Next}
 use Rattle.engine.specs.declared.frame.Next.TheVariants.{Refused, Send, Total}
 use Rattle.engine.specs.declared.command.Short.{Short}
 use Rattle.engine.specs.declared.command.Short.TheVariants.{Other, Empty, Word}
-use Rattle.engine.specs.declared.command.Pair.{Pair}
-use Rattle.engine.specs.declared.command.Pair.TheVariants.{Cut, Both}
 use Rattle.engine.specs.declared.shell.Line.{Line}
 use Rattle.engine.specs.declared.shell.Line.TheVariants as line
-use Rattle.engine.specs.declared.shell.Text.{Text}
-use Rattle.engine.specs.declared.shell.Text.TheVariants as text
 use Rattle.engine.specs.declared.shell.Window.{Window}
-use Rattle.engine.specs.declared.shell.Window.TheVariants as window
-use Rattle.engine.specs.declared.api.Got.TheVariants as got
 use Rattle.engine.specs.World.{Given, World, with_said, with_up, with_flags, emptied, at_e, dev_of, at_dev, Out, out_of}
 use Rattle.engine.specs.Reply.{Answer, ok, fail, whether, Ran, ran, status_by, replied, ends}
-use Rattle.engine.specs.Command.{short_by, short_of, long_by, long_of, plain_by, plain, pair_of, read_of, write_of}
+use Rattle.engine.specs.Command.{short_of, long_by, long_of, plain_by, plain, pair_of, read_of, write_of}
 use Rattle.engine.specs.Storing.{after_flush, end_upgrade, probed, crc_query, read_fwc_by, read_fwc, erased_by, erase_storage, aims, is_meta, set_meta}
 use Rattle.engine.specs.Shell.{line_of, window_of, text_of, is_reset}
 use Rattle.engine.specs.Running.{run_erase, run_write, run_read, run_boot, run_by, run_line, shell_by, shell}
@@ -110,9 +103,9 @@ module _ (s : Said) where
     unfolding read_fwc
     fwc_aside d w = go (pair_of d)
       where
-        go : (p : Pair) → Beside (read_fwc_by l w p) (read_fwc_by l (at_said s w) p)
-        go Cut = refl
-        go (Both off len) = refl
+        go : (p : Option (ℕ × ℕ)) → Beside (read_fwc_by l w p) (read_fwc_by l (at_said s w) p)
+        go None = refl
+        go (Some (off, len)) = refl
 
     erased_aside : (d : List ℕ) (w : World) → Beside (erase_storage l d w) (erase_storage l d (at_said s w))
     unfolding erase_storage
@@ -139,36 +132,36 @@ module _ (s : Said) where
     unfolding run_erase
     erase_aside start size w = refl
 
-    write_aside : (off : ℕ) (x : Window) (w : World) → Beside (run_write l off x w) (run_write l off x (at_said s w))
+    write_aside : (off : ℕ) (x : Option Window) (w : World) → Beside (run_write l off x w) (run_write l off x (at_said s w))
     unfolding run_write
-    write_aside off window.Out w = refl
-    write_aside off (window.At place len) w =
-        let t = from_scratch l off place len w.scratch (dev_of w) in
+    write_aside off None w = refl
+    write_aside off (Some x) w =
+        let t = from_scratch l off x.place x.len w.scratch (dev_of w) in
         let f = flushing l t.dev in
-        pick Beside (eqb t.count len) w (λ v. ran (whether (eqb f.status 0)) (at_dev f.dev v)) (λ v. ran fail (at_dev t.dev v)) refl refl
+        pick Beside (eqb t.count x.len) w (λ v. ran (whether (eqb f.status 0)) (at_dev f.dev v)) (λ v. ran fail (at_dev t.dev v)) refl refl
 
-    take_aside : (off : ℕ) (x : Window) (w : World) → Beside (run_read l off x w) (run_read l off x (at_said s w))
+    take_aside : (off : ℕ) (x : Option Window) (w : World) → Beside (run_read l off x w) (run_read l off x (at_said s w))
     unfolding run_read
-    take_aside off window.Out w = refl
-    take_aside off (window.At place len) w = refl
+    take_aside off None w = refl
+    take_aside off (Some x) w = refl
 
-    boot_aside : (x : Window) (w : World) → Beside (run_boot x w) (run_boot x (at_said s w))
+    boot_aside : (x : Option Window) (w : World) → Beside (run_boot x w) (run_boot x (at_said s w))
     unfolding run_boot
-    boot_aside window.Out w = refl
-    boot_aside (window.At place len) w = refl
+    boot_aside None w = refl
+    boot_aside (Some x) w = refl
 
-    line_aside : (w : World) (x : Line) → Beside (run_by l w x) (run_by l (at_said s w) x)
-    line_aside w line.Bad = refl
-    line_aside w line.Done = refl
-    line_aside w (line.Erase start size) = erase_aside start size w
-    line_aside w (line.Write off len addr) = write_aside off (window_of w.e.base (length w.scratch) addr len) w
-    line_aside w (line.Read off len addr) = take_aside off (window_of w.e.base (length w.scratch) addr len) w
-    line_aside w (line.Boot addr len) = boot_aside (window_of w.e.base (length w.scratch) addr len) w
+    line_aside : (w : World) (x : Option Line) → Beside (run_by l w x) (run_by l (at_said s w) x)
+    line_aside w None = refl
+    line_aside w (Some line.Done) = refl
+    line_aside w (Some (line.Erase start size)) = erase_aside start size w
+    line_aside w (Some (line.Write off len addr)) = write_aside off (window_of w.e.base (length w.scratch) addr len) w
+    line_aside w (Some (line.Read off len addr)) = take_aside off (window_of w.e.base (length w.scratch) addr len) w
+    line_aside w (Some (line.Boot addr len)) = boot_aside (window_of w.e.base (length w.scratch) addr len) w
 
-    text_aside : (d : List ℕ) (w : World) (x : Text) → Beside (shell_by l d w x) (shell_by l d (at_said s w) x)
+    text_aside : (d : List ℕ) (w : World) (x : Option ℕ) → Beside (shell_by l d w x) (shell_by l d (at_said s w) x)
     unfolding run_line
-    text_aside d w text.Bad = refl
-    text_aside d w (text.Len n) =
+    text_aside d w None = refl
+    text_aside d w (Some n) =
         let x = take n (drop 4 d) in
         line_aside (at_e (with_flags w.e.upgrading (w.e.asked || is_reset x) w.e) w) (line_of x)
 
@@ -261,7 +254,7 @@ module _ (g : Given) (s : Said) where
       (pick s B (eqb n 0x13) w (crc_query l) r (crc_aside s l w) (pick s B (eqb n 0x18) w (read_fwc l d) e (fwc_aside s l d w) (erased_aside s l d w))))
 
   plain_aside : (n : ℕ) (w : World) → plain n (at_said s w).e g.table ≡ plain n w.e g.table
-  unfolding plain short_by short_of long_by long_of
+  unfolding plain long_by long_of
   plain_aside n w = go (short_of n w.e)
     where
       go : (x : Short) → plain_by n (at_said s w).e g.table x ≡ plain_by n w.e g.table x
@@ -292,9 +285,9 @@ module _ (g : Given) (s : Said) where
   unfolding execs
   execs_aside w = go (order_of (take w.e.frame.total w.request))
     where
-      go : (x : Order) → Aside s w (exec_by g w x) (exec_by g (at_said s w) x)
-      go Bad = inr (refl, refl, refl)
-      go (Run n m) = performs_aside n m w
+      go : (x : Option (ℕ × ℕ)) → Aside s w (exec_by g w x) (exec_by g (at_said s w) x)
+      go None = inr (refl, refl, refl)
+      go (Some (n, m)) = performs_aside n m w
 
   ripens_aside : (w : World) → Aside s w (ripens g w) (ripens g (at_said s w))
   unfolding ripens
@@ -372,7 +365,7 @@ behind_fit s room h = (omega (arith, h.0), h.1)
 
 module _ (g : Given) (w : World) (f : fits g w ≡ true) where
   -- what a read gives from an engine in bounds hangs on `said` and the reply room alone
-  read_is : (room : List ℕ) → reads g w room ≡ record { got = got.Count (many_of w.e.said room); e = with_said (behind w.e.said room) w.e; room = shown w.e.said w.reply room }
+  read_is : (room : List ℕ) → reads g w room ≡ record { got = Ok (many_of w.e.said room); e = with_said (behind w.e.said room) w.e; room = shown w.e.said w.reply room }
   unfolding reads
   read_is room = rw f
 
@@ -411,7 +404,8 @@ passes g room w o p f k (inr h) =
     let a = read_is g w f room in
     let b = read_is g v k room in
     let l = read_at_said g v k room ∙ ap (λ (s : Said). at_said (behind s room) v) h.1 in
-    let c = ap (λ (s : Said). got.Count (many_of s room)) h.1 in
+    let count : Said → Result ℕ CallError = λ s. Ok (many_of s room) in
+    let c = ap count h.1 in
     let d = ap (λ (s : Said). shown s v.reply room) h.1 ∙ ap (λ (x : List ℕ). shown w.e.said x room) h.2 in
     inr (
       h.0 ∙ ap (out_of o.status) (sym l),

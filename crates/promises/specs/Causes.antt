@@ -4,7 +4,7 @@
 -- range passes the capacity or the chip's end (`Cause`). So each row of Why.antt that says what a storage call told has a cause:
 -- `traced`. A NOR is in order from its opening on, whatever is called and whatever its chip does (`nor_traced`); a NAND is while its
 -- writes stay below the capacity and the chip's end.
-use Rattle.std.specs.Prelude.{◌≡◌, refl, Bool, true, false, ◌⊎◌, ℕ, ◌+◌, ◌-◌, ◌<◌, leb, ltb, length, drop}
+use Rattle.std.specs.Prelude.{◌≡◌, refl, Option, None, Some, Bool, true, false, ◌⊎◌, ℕ, ◌+◌, ◌-◌, ◌<◌, leb, ltb, length, drop}
 use Rattle.std.proofs.Common.{sym, ap, subst, ◌∙◌, inl, inr, ⊎_elim, arith, leb-true, leb-false, ltb-true, ltb-false, length-take, length-drop, get_or-drop}
 use mathlib.Core.List.{List, [], ◌∷◌}
 use Rattle.wire.specs.Bytes.{word_at}
@@ -21,11 +21,10 @@ use Rattle.storage_laws.specs.Reasons.{InOrder, Met, nor_nand, nor_opening_lem, 
 use Rattle.storage_laws.specs.Moves.{from_or_met, from_order, into_or_met}
 use Rattle.engine.specs.declared.shell.Line.{Line}
 use Rattle.engine.specs.declared.shell.Line.TheVariants as line
-use Rattle.engine.specs.declared.api.Opening.{Opening}
 use Rattle.engine.specs.World.{Given, World, at_e, dev_of, Out, out_of}
 use Rattle.engine.specs.Shell.{line_of}
 use Rattle.engine.specs.Feed.{feeds}
-use Rattle.engine.specs.Api.{fits, writes, Read, reads}
+use Rattle.engine.specs.Api.{fits, Opening, writes, Read, reads}
 use Rattle.engine_laws.specs.Carry.{feeds_left}
 use Rattle.engine_laws.specs.Bounds.{Call, write, read, reset, after, after_all, nor_opening, nor_opening_is}
 use Rattle.engine_laws.specs.Split.{On, on_start, on_closed, order_steady}
@@ -148,13 +147,13 @@ module _ (l : Lent) (w : World) (off len addr : ℕ) where
 -- ---- the rows of Why.antt
 
 -- the cause of a line that failed
-abbrev pub RunCause : Lent → World → Line → Type 0
-RunCause l w line.Bad = Unit {0}
-RunCause l w line.Done = Unit {0}
-RunCause l w (line.Erase start size) = Cause l (HeldOrTouched (dev_of w) start size) start size (dev_of w) (erasing l start size (dev_of w)).dev
-RunCause l w (line.Write off len addr) = OutCause l w off len addr
-RunCause l w (line.Read off len addr) = InCause l w off len addr
-RunCause l w (line.Boot addr len) = Unit {0}
+abbrev pub RunCause : Lent → World → Option Line → Type 0
+RunCause l w None = Unit {0}
+RunCause l w (Some line.Done) = Unit {0}
+RunCause l w (Some (line.Erase start size)) = Cause l (HeldOrTouched (dev_of w) start size) start size (dev_of w) (erasing l start size (dev_of w)).dev
+RunCause l w (Some (line.Write off len addr)) = OutCause l w off len addr
+RunCause l w (Some (line.Read off len addr)) = InCause l w off len addr
+RunCause l w (Some (line.Boot addr len)) = Unit {0}
 
 -- the cause of a row that says what a storage call told; the other rows are causes themselves
 abbrev pub Traced : (g : Given) (c : ℕ) (bytes : List ℕ) (w : World) → Why g c bytes w → Type 0
@@ -183,13 +182,13 @@ Traced g c bytes w (erase_failed n h) =
     Cause g.lent (HeldOrTouched d (word_at 8 bytes 0) (word_at 8 bytes 8)) (word_at 8 bytes 0) (word_at 8 bytes 8) d
     (erasing g.lent (word_at 8 bytes 0) (word_at 8 bytes 8) d).dev
 
-run_traced : (l : Lent) (w : World) → InOrder l (dev_of w) → Bytes w.scratch → (x : Line) → RunWhy l w x → RunCause l w x
-run_traced l w o b line.Bad h = tt
-run_traced l w o b line.Done h = tt
-run_traced l w o b (line.Erase start size) h = erase_cause l (dev_of w) o start size h
-run_traced l w o b (line.Write off len addr) h = out_cause l w off len addr o b h
-run_traced l w o b (line.Read off len addr) h = in_cause l w off len addr o h
-run_traced l w o b (line.Boot addr len) h = tt
+run_traced : (l : Lent) (w : World) → InOrder l (dev_of w) → Bytes w.scratch → (x : Option Line) → RunWhy l w x → RunCause l w x
+run_traced l w o b None h = tt
+run_traced l w o b (Some line.Done) h = tt
+run_traced l w o b (Some (line.Erase start size)) h = erase_cause l (dev_of w) o start size h
+run_traced l w o b (Some (line.Write off len addr)) h = out_cause l w off len addr o b h
+run_traced l w o b (Some (line.Read off len addr)) h = in_cause l w off len addr o h
+run_traced l w o b (Some (line.Boot addr len)) h = tt
 
 -- every row that a storage call gave has its cause
 pub traced : (g : Given) (c : ℕ) (bytes : List ℕ) (w : World) → InOrder g.lent (dev_of w) → Bytes w.scratch → (y : Why g c bytes w) → Traced g c bytes w y

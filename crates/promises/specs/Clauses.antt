@@ -2,9 +2,11 @@
 -- equal (01). `Learnt` of a function is its `ensures` as a caller gets it, made from the clause in src/ by the checker: of the lifetimes,
 -- the arguments, what is returned, and the arguments at exit. So a contract that says less than all, such as a bound or an implication, is
 -- refused here. Fixed.antt, FixedStorage.antt and FixedEngine.antt have the same with the definitions written out, and the proofs.
+-- The arguments stand in their order, a method's `self` first: at exit `s.0`, `s.1.0`, `s.1.1.0` and so on.
 --
--- All sixty-eight public functions of wire, text, storage, engine and transport stand here, in the order of src/.
-use Rattle.std.specs.Prelude.{◌≡◌, []}
+-- All seventy-four public functions of wire, text, storage, engine and transport stand here, in the order of src/.
+use Rattle.std.specs.Prelude.{◌≡◌}
+use Rattle.storage.specs.Parts.{rest_of}
 use Rattle.wire.proofs.bytes.u16_at.Reads as u16_at
 use Rattle.wire.proofs.bytes.u32_at.Reads as u32_at
 use Rattle.wire.proofs.bytes.u64_at.Reads as u64_at
@@ -30,38 +32,44 @@ use Rattle.storage.proofs.chip.fill.Reads as fill
 use Rattle.storage.proofs.open.geometry_ok.Reads as geometry_ok
 use Rattle.storage.proofs.open.page_shift.Reads as page_shift
 use Rattle.storage.proofs.open.scratch_ok.Reads as scratch_ok
-use Rattle.storage.proofs.open.open_nor.Reads as storage_open_nor
-use Rattle.storage.proofs.open.open_nand.Reads as storage_open_nand
-use Rattle.storage.proofs.open.fits.Reads as fits
+use Rattle.storage.proofs.types.Store.open_nor.Reads as storage_open_nor
+use Rattle.storage.proofs.types.Store.open_nand.Reads as storage_open_nand
+use Rattle.storage.proofs.types.Store.fits.Reads as fits
 use Rattle.storage.proofs.open.nor_fits.Reads as nor_fits
-use Rattle.storage.proofs.open.is_nand.Reads as is_nand
-use Rattle.storage.proofs.open.block_size.Reads as block_size
-use Rattle.storage.proofs.open.capacity.Reads as capacity
-use Rattle.storage.proofs.open.boot_stage.Reads as boot_stage
-use Rattle.storage.proofs.open.device_id.Reads as device_id
-use Rattle.storage.proofs.partition.lists_ok.Reads as lists_ok
-use Rattle.storage.proofs.partition.table_end.Reads as table_end
-use Rattle.storage.proofs.partition.lookup.Reads as lookup
-use Rattle.storage.proofs.scratch.write_from_scratch.Reads as write_from_scratch
-use Rattle.storage.proofs.scratch.read_into_scratch.Reads as read_into_scratch
-use Rattle.storage.proofs.store.flush.Reads as flush
-use Rattle.storage.proofs.store.erase.Reads as erase
-use Rattle.storage.proofs.store.write.Reads as storage_write
-use Rattle.storage.proofs.store.read.Reads as storage_read
+use Rattle.storage.proofs.types.Store.is_nand.Reads as is_nand
+use Rattle.storage.proofs.types.Store.block_size.Reads as block_size
+use Rattle.storage.proofs.types.Store.capacity.Reads as capacity
+use Rattle.storage.proofs.types.Store.boot_stage.Reads as boot_stage
+use Rattle.storage.proofs.types.Store.device_id.Reads as device_id
+use Rattle.storage.proofs.lent.Partitions.iter.Reads as iter
+use Rattle.storage.proofs.lent.Partitions.fit.Reads as lists_ok
+use Rattle.storage.proofs.lent.Partitions.end.Reads as table_end
+use Rattle.storage.proofs.lent.Partitions.lookup.Reads as lookup
+use Rattle.storage.proofs.types.Store.write_from_scratch.Reads as write_from_scratch
+use Rattle.storage.proofs.types.Store.read_into_scratch.Reads as read_into_scratch
+use Rattle.storage.proofs.types.Store.flush.Reads as flush
+use Rattle.storage.proofs.types.Store.erase.Reads as erase
+use Rattle.storage.proofs.types.Store.write.Reads as storage_write
+use Rattle.storage.proofs.types.Store.read.Reads as storage_read
+use Rattle.storage.proofs.types.CallError.number.Reads as call_number
+use Rattle.storage.proofs.types.status_number.Reads as status_number
+use Rattle.storage.proofs.types.Refusal.number.Reads as refusal_number
 use Rattle.engine.proofs.api.numbers_ok.Reads as numbers_ok
-use Rattle.engine.proofs.api.all_ok.Reads as all_ok
-use Rattle.engine.proofs.api.open_nor.Reads as engine_open_nor
-use Rattle.engine.proofs.api.open_nand.Reads as engine_open_nand
-use Rattle.engine.proofs.api.write.Reads as engine_write
-use Rattle.engine.proofs.api.read.Reads as engine_read
-use Rattle.engine.proofs.api.cleared.Reads as cleared
-use Rattle.engine.proofs.api.is_upgrading.Reads as is_upgrading
-use Rattle.engine.proofs.api.is_asked.Reads as is_asked
-use Rattle.engine.proofs.bus.reset.Reads as bus_reset
-use Rattle.engine.proofs.bus.host_upgrading.Reads as host_upgrading
-use Rattle.engine.proofs.bus.reset_requested.Reads as reset_requested
+use Rattle.engine.proofs.types.Engine.fits.Reads as all_ok
+use Rattle.engine.proofs.types.Engine.open_nor.Reads as engine_open_nor
+use Rattle.engine.proofs.types.Engine.open_nand.Reads as engine_open_nand
+use Rattle.engine.proofs.types.Engine.write.Reads as engine_write
+use Rattle.engine.proofs.types.Engine.read.Reads as engine_read
+use Rattle.engine.proofs.types.Engine.cleared.Reads as cleared
+use Rattle.engine.proofs.types.Engine.is_upgrading.Reads as is_upgrading
+use Rattle.engine.proofs.types.Engine.is_asked.Reads as is_asked
+use Rattle.engine.proofs.types.Engine.reset.Reads as bus_reset
+use Rattle.engine.proofs.types.Engine.host_upgrading.Reads as host_upgrading
+use Rattle.engine.proofs.types.Engine.reset_requested.Reads as reset_requested
 use Rattle.engine.proofs.command.is_query.Reads as is_query
 use Rattle.engine.proofs.command.pair_of.Reads as pair_of
+use Rattle.engine.proofs.reply.status_of.Reads as status_of
+use Rattle.engine.proofs.reply.len_of.Reads as len_of
 use Rattle.engine.proofs.shell.text_len.Reads as text_len
 use Rattle.engine.proofs.shell.is_write.Reads as is_write
 use Rattle.engine.proofs.shell.is_reset.Reads as is_reset
@@ -71,13 +79,13 @@ use Rattle.engine.proofs.shell.boot_table.Reads as boot_table
 use Rattle.engine.proofs.short.alone_of.Reads as alone_of
 use Rattle.engine.proofs.short.answer.Reads as answer
 use Rattle.engine.proofs.stream.burn_by.Reads as burn_by
-use Rattle.transport.proofs.port.start.Reads as start
-use Rattle.transport.proofs.step.step.Reads as step
+use Rattle.transport.proofs.port.Port.start.Reads as start
+use Rattle.transport.proofs.port.Port.step.Reads as step
 use Rattle.promises.specs.Fixed.{meet}
 use Rattle.promises.specs.FixedStorage as stores
 use Rattle.promises.specs.FixedStorage.{flush_fixed, erase_fixed, write_from_scratch_fixed, read_into_scratch_fixed}
 use Rattle.promises.specs.FixedEngine as engines
-use Rattle.promises.specs.FixedEngine.{step_fixed}
+use Rattle.promises.specs.FixedEngine.{opening_fixed, status_of_fixed, step_fixed}
 
 -- any two outcomes that a contract admits, r with s at exit and r' with s', agree
 abbrev pub Fixes :
@@ -87,10 +95,6 @@ Fixes {K} {A} {R} {S} Says Agree = (k : K) (a : A k) (r r' : R k) (s s' : S k) �
 -- where all that a call does is to return a value
 abbrev pub Returns : {K : Type 0} {A R S : K → Type 0} → ((k : K) → A k → R k → S k → Type 0) → Type 0
 Returns Says = Fixes Says (λ k r r' s s'. r ≡ r')
-
--- the arguments at exit behind the first eight
-abbrev pub past8 : {A B C D E F G H X : Type 0} → A × (B × (C × (D × (E × (F × (G × (H × X))))))) → X
-past8 s = s.1.1.1.1.1.1.1.1
 
 -- ---- wire: bytes, crc, header, packet
 
@@ -180,7 +184,7 @@ trim_one k a r r' s s' = meet
 pub is_utf8_one : Returns is_utf8.Learnt
 is_utf8_one k a r r' s s' = meet
 
--- ---- storage: chip, open, partition, scratch, store
+-- ---- storage: chip, open, partition, scratch, store, types
 
 -- `chip::fill`: what it leaves in the slice
 pub fill_one : Fixes fill.Learnt (λ k r r' s s'. s.0.now ≡ s'.0.now)
@@ -198,15 +202,15 @@ page_shift_one k a r r' s s' = meet
 pub scratch_ok_one : Returns scratch_ok.Learnt
 scratch_ok_one k a r r' s s' = meet
 
--- `open::open_nor`
+-- `Store::open_nor`
 pub storage_open_nor_one : Returns storage_open_nor.Learnt
 storage_open_nor_one k a r r' s s' = meet
 
--- `open::open_nand`
+-- `Store::open_nand`
 pub storage_open_nand_one : Returns storage_open_nand.Learnt
 storage_open_nand_one k a r r' s s' = meet
 
--- `open::fits`
+-- `Store::fits`
 pub fits_one : Returns fits.Learnt
 fits_one k a r r' s s' = meet
 
@@ -214,135 +218,159 @@ fits_one k a r r' s s' = meet
 pub nor_fits_one : Returns nor_fits.Learnt
 nor_fits_one k a r r' s s' = meet
 
--- `open::is_nand`
+-- `Store::is_nand`
 pub is_nand_one : Returns is_nand.Learnt
 is_nand_one k a r r' s s' = meet
 
--- `open::block_size`
+-- `Store::block_size`
 pub block_size_one : Returns block_size.Learnt
 block_size_one k a r r' s s' = meet
 
--- `open::capacity`
+-- `Store::capacity`
 pub capacity_one : Returns capacity.Learnt
 capacity_one k a r r' s s' = meet
 
--- `open::boot_stage`
+-- `Store::boot_stage`
 pub boot_stage_one : Returns boot_stage.Learnt
 boot_stage_one k a r r' s s' = meet
 
--- `open::device_id`
+-- `Store::device_id`
 pub device_id_one : Returns device_id.Learnt
 device_id_one k a r r' s s' = meet
 
--- `partition::lists_ok`
+-- `Partitions::iter`: an iterator, by all that it yields
+pub iter_one : Fixes iter.Learnt (λ k r r' s s'. rest_of r ≡ rest_of r')
+iter_one k a r r' s s' = meet
+
+-- `Partitions::fit`
 pub lists_ok_one : Returns lists_ok.Learnt
 lists_ok_one k a r r' s s' = meet
 
--- `partition::table_end`
+-- `Partitions::end`
 pub table_end_one : Returns table_end.Learnt
 table_end_one k a r r' s s' = meet
 
--- `partition::lookup`
+-- `Partitions::lookup`
 pub lookup_one : Returns lookup.Learnt
 lookup_one k a r r' s s' = meet
 
--- `scratch::write_from_scratch`: what it returns, the chip and the buffer
+-- `Store::write_from_scratch`: what it returns, the record, the chip and the buffer
 pub write_from_scratch_one : Fixes write_from_scratch.Learnt (λ k r r' s s'.
     (r ≡ r')
-    × (s.1.1.1.0.now ≡ s'.1.1.1.0.now)
-    × (s.1.1.1.1.0.now ≡ s'.1.1.1.1.0.now))
-write_from_scratch_one k a r r' s s' = write_from_scratch_fixed _ _ _ _ r r' _ _ _ _ _ _ _ _
+    × (s.0.now ≡ s'.0.now)
+    × (s.1.1.0.now ≡ s'.1.1.0.now)
+    × (s.1.1.1.0.now ≡ s'.1.1.1.0.now))
+write_from_scratch_one k a r r' s s' = write_from_scratch_fixed _ _ _ _ _ _ _ _ r r' _ _ _ _ _ _
 
--- `scratch::read_into_scratch`: what it returns, the chip and scratch
+-- `Store::read_into_scratch`: what it returns, the record, the chip and scratch
 pub read_into_scratch_one : Fixes read_into_scratch.Learnt (λ k r r' s s'.
     (r ≡ r')
-    × (s.1.1.1.0.now ≡ s'.1.1.1.0.now)
-    × (s.1.1.1.1.1.0.now ≡ s'.1.1.1.1.1.0.now))
-read_into_scratch_one k a r r' s s' = read_into_scratch_fixed _ _ _ _ r r' _ _ _ _ _ _ _ _
+    × (s.0.now ≡ s'.0.now)
+    × (s.1.1.0.now ≡ s'.1.1.0.now)
+    × (s.1.1.1.1.0.now ≡ s'.1.1.1.1.0.now))
+read_into_scratch_one k a r r' s s' = read_into_scratch_fixed _ _ _ _ _ _ _ _ r r' _ _ _ _ _ _
 
--- `store::flush`: what it returns, and the chip
+-- `Store::flush`: what it returns, the record and the chip
 pub flush_one : Fixes flush.Learnt (λ k r r' s s'.
     (r ≡ r')
-    × (s.1.1.1.0.now ≡ s'.1.1.1.0.now))
-flush_one k a r r' s s' = flush_fixed _ _ _ _ r r' _ _
+    × (s.0.now ≡ s'.0.now)
+    × (s.1.1.0.now ≡ s'.1.1.0.now))
+flush_one k a r r' s s' = flush_fixed _ _ _ _ _ _ _ _ r r'
 
--- `store::erase`: what it returns, and the chip
+-- `Store::erase`: what it returns, the record and the chip
 pub erase_one : Fixes erase.Learnt (λ k r r' s s'.
     (r ≡ r')
-    × (s.1.1.1.0.now ≡ s'.1.1.1.0.now))
-erase_one k a r r' s s' = erase_fixed _ _ _ _ r r' _ _ _ _
+    × (s.0.now ≡ s'.0.now)
+    × (s.1.1.0.now ≡ s'.1.1.0.now))
+erase_one k a r r' s s' = erase_fixed _ _ _ _ _ _ _ _ r r' _ _
 
--- `store::write`: what it returns, the chip and the buffer
+-- `Store::write`: what it returns, the record, the chip and the buffer
 pub storage_write_one : Fixes storage_write.Learnt (λ k r r' s s'.
     (r ≡ r')
-    × (s.1.1.1.0.now ≡ s'.1.1.1.0.now)
-    × (s.1.1.1.1.0.now ≡ s'.1.1.1.1.0.now))
-storage_write_one k a r r' s s' = stores.write_fixed _ _ _ _ r r' _ _ _ _ _ _
+    × (s.0.now ≡ s'.0.now)
+    × (s.1.1.0.now ≡ s'.1.1.0.now)
+    × (s.1.1.1.0.now ≡ s'.1.1.1.0.now))
+storage_write_one k a r r' s s' = stores.write_fixed _ _ _ _ _ _ _ _ r r' _ _ _ _
 
--- `store::read`: what it returns, the chip and the room
+-- `Store::read`: what it returns, the record, the chip and the room
 pub storage_read_one : Fixes storage_read.Learnt (λ k r r' s s'.
     (r ≡ r')
-    × (s.1.1.1.0.now ≡ s'.1.1.1.0.now)
-    × (s.1.1.1.1.1.1.0.now ≡ s'.1.1.1.1.1.1.0.now))
-storage_read_one k a r r' s s' = stores.read_fixed _ _ _ _ r r' _ _ _ _ _ _
+    × (s.0.now ≡ s'.0.now)
+    × (s.1.1.0.now ≡ s'.1.1.0.now)
+    × (s.1.1.1.1.1.0.now ≡ s'.1.1.1.1.1.0.now))
+storage_read_one k a r r' s s' = stores.read_fixed _ _ _ _ _ _ _ _ r r' _ _ _ _
 
--- ---- engine: api, command, shell, short, stream
+-- `CallError::number`
+pub call_number_one : Returns call_number.Learnt
+call_number_one k a r r' s s' = meet
+
+-- `status_number`
+pub status_number_one : Returns status_number.Learnt
+status_number_one k a r r' s s' = meet
+
+-- `Refusal::number`
+pub refusal_number_one : Returns refusal_number.Learnt
+refusal_number_one k a r r' s s' = meet
+
+-- ---- engine: api, bus, command, reply, shell, short, stream
 
 -- `api::numbers_ok`
 pub numbers_ok_one : Returns numbers_ok.Learnt
 numbers_ok_one k a r r' s s' = meet
 
--- `api::all_ok`: its contract speaks of every list of failing calls and every table text, neither of which it is lent
+-- `Engine::fits`
 pub all_ok_one : Returns all_ok.Learnt
-all_ok_one k a r r' s s' h h' = meet (h [] []) (h' [] [])
+all_ok_one k a r r' s s' = meet
 
--- `api::open_nor`
+-- `Engine::open_nor`
 pub engine_open_nor_one : Returns engine_open_nor.Learnt
-engine_open_nor_one k a r r' s s' = meet
+engine_open_nor_one k a r r' s s' = opening_fixed _ r r'
 
--- `api::open_nand`
+-- `Engine::open_nand`
 pub engine_open_nand_one : Returns engine_open_nand.Learnt
-engine_open_nand_one k a r r' s s' = meet
+engine_open_nand_one k a r r' s s' = opening_fixed _ r r'
 
--- `api::write`: what it returns; request, reply, chip, buffer and scratch
+-- `Engine::write`: what it returns; the record; request, reply, chip, buffer and scratch
 pub engine_write_one : Fixes engine_write.Learnt (λ k r r' s s'.
     (r ≡ r')
-    × (s.1.0.now ≡ s'.1.0.now)
-    × ((past8 s).1.1.1.1.0.now ≡ (past8 s').1.1.1.1.0.now)
-    × ((past8 s).1.0.now ≡ (past8 s').1.0.now)
-    × ((past8 s).1.1.0.now ≡ (past8 s').1.1.0.now)
-    × ((past8 s).1.1.1.0.now ≡ (past8 s').1.1.1.0.now))
-engine_write_one k a r r' s s' = engines.write_fixed _ _ _ r r' _ _ _ _ _ _ _ _ _ _
+    × (s.0.now ≡ s'.0.now)
+    × (s.1.1.0.now ≡ s'.1.1.0.now)
+    × (s.1.1.1.0.now.reply.now ≡ s'.1.1.1.0.now.reply.now)
+    × (s.1.1.1.0.now.chip.now ≡ s'.1.1.1.0.now.chip.now)
+    × (s.1.1.1.0.now.buffer.now ≡ s'.1.1.1.0.now.buffer.now)
+    × (s.1.1.1.0.now.scratch.now ≡ s'.1.1.1.0.now.scratch.now))
+engine_write_one k a r r' s s' h h' = engines.write_fixed _ _ _ r r' _ _ _ _ s.1.1.1.0.now s'.1.1.1.0.now h.1 h'.1
 
--- `api::read`: what it returns, and the room
+-- `Engine::read`: what it returns, the record and the room
 pub engine_read_one : Fixes engine_read.Learnt (λ k r r' s s'.
     (r ≡ r')
-    × ((past8 s).1.1.1.0.now ≡ (past8 s').1.1.1.0.now))
-engine_read_one k a r r' s s' = engines.read_fixed _ _ _ _ r r' _ _
+    × (s.0.now ≡ s'.0.now)
+    × (s.1.1.1.1.0.now ≡ s'.1.1.1.1.0.now))
+engine_read_one k a r r' s s' = engines.read_fixed _ _ _ r r' _ _ _ _
 
--- `api::cleared`
+-- `Engine::cleared`
 pub cleared_one : Returns cleared.Learnt
 cleared_one k a r r' s s' = meet
 
--- `api::is_upgrading`
+-- `Engine::is_upgrading`
 pub is_upgrading_one : Returns is_upgrading.Learnt
 is_upgrading_one k a r r' s s' = meet
 
--- `api::is_asked`
+-- `Engine::is_asked`
 pub is_asked_one : Returns is_asked.Learnt
 is_asked_one k a r r' s s' = meet
 
--- `bus::reset`: the record
+-- `Engine::reset`: the record
 pub bus_reset_one : Fixes bus_reset.Learnt (λ k r r' s s'. s.0.now ≡ s'.0.now)
 bus_reset_one k a r r' s s' = meet
 
--- `bus::host_upgrading`: the answer and the record
+-- `Engine::host_upgrading`: the answer and the record
 pub bus_host_upgrading_one : Fixes host_upgrading.Learnt (λ k r r' s s'.
     (r ≡ r')
     × (s.0.now ≡ s'.0.now))
 bus_host_upgrading_one k a r r' s s' h h' = (meet h.0 h'.0, meet h.1 h'.1)
 
--- `bus::reset_requested`: the answer and the record
+-- `Engine::reset_requested`: the answer and the record
 pub bus_reset_requested_one : Fixes reset_requested.Learnt (λ k r r' s s'.
     (r ≡ r')
     × (s.0.now ≡ s'.0.now))
@@ -355,6 +383,14 @@ is_query_one k a r r' s s' = meet
 -- `command::pair_of`
 pub pair_of_one : Returns pair_of.Learnt
 pair_of_one k a r r' s s' = meet
+
+-- `reply::status_of`
+pub status_of_one : Returns status_of.Learnt
+status_of_one k a r r' s s' = status_of_fixed _ r r'
+
+-- `reply::len_of`
+pub len_of_one : Returns len_of.Learnt
+len_of_one k a r r' s s' = meet
 
 -- `shell::text_len`
 pub text_len_one : Returns text_len.Learnt
@@ -388,7 +424,7 @@ alone_of_one k a r r' s s' = meet
 pub answer_one : Fixes answer.Learnt (λ k r r' s s'.
     (r ≡ r')
     × (s.1.1.1.1.1.1.0.now ≡ s'.1.1.1.1.1.1.0.now))
-answer_one k a r r' s s' = engines.answer_fixed _ _ _ _ _ _ _ r r' _ _
+answer_one k a r r' s s' h h' = engines.answer_fixed _ _ _ _ _ _ _ r r' _ _ (h.1, h.0) (h'.1, h'.0)
 
 -- `stream::burn_by`
 pub burn_by_one : Returns burn_by.Learnt
@@ -396,17 +432,18 @@ burn_by_one k a r r' s s' = meet
 
 -- ---- transport: port, step
 
--- `port::start`
+-- `Port::start`
 pub start_one : Returns start.Learnt
 start_one k a r r' s s' = meet
 
--- `step::step`: what it returns; request, reply, chip, buffer, scratch and the room of sent packets
+-- `Port::step`: what it returns; the engine's record; request, reply, chip, buffer, scratch and the room of sent packets
 pub step_one : Fixes step.Learnt (λ k r r' s s'.
     (r ≡ r')
-    × (s.1.1.0.now ≡ s'.1.1.0.now)
-    × ((past8 s).1.1.1.1.1.0.now ≡ (past8 s').1.1.1.1.1.0.now)
-    × ((past8 s).1.1.0.now ≡ (past8 s').1.1.0.now)
-    × ((past8 s).1.1.1.0.now ≡ (past8 s').1.1.1.0.now)
-    × ((past8 s).1.1.1.1.0.now ≡ (past8 s').1.1.1.1.0.now)
-    × ((past8 s).1.1.1.1.1.1.0.now ≡ (past8 s').1.1.1.1.1.1.0.now))
-step_one k a r r' s s' = step_fixed _ _ _ _ _ r r' _ _ _ _ _ _ _ _ _ _ _ _
+    × (s.1.0.now ≡ s'.1.0.now)
+    × (s.1.1.1.0.now ≡ s'.1.1.1.0.now)
+    × (s.1.1.1.1.0.now.reply.now ≡ s'.1.1.1.1.0.now.reply.now)
+    × (s.1.1.1.1.0.now.chip.now ≡ s'.1.1.1.1.0.now.chip.now)
+    × (s.1.1.1.1.0.now.buffer.now ≡ s'.1.1.1.1.0.now.buffer.now)
+    × (s.1.1.1.1.0.now.scratch.now ≡ s'.1.1.1.1.0.now.scratch.now)
+    × (s.1.1.1.1.1.0.now ≡ s'.1.1.1.1.1.0.now))
+step_one k a r r' s s' h h' = step_fixed _ _ _ _ _ r r' _ _ _ _ s.1.1.1.1.0.now s'.1.1.1.1.0.now _ _ h.1 h'.1

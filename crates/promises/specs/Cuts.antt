@@ -7,8 +7,7 @@ use Rattle.std.proofs.Common.{sym, subst, ◌∙◌, ⊎_elim, arith, ltb-true, 
 use Rattle.std.proofs.Math.Path.{ap}
 use mathlib.Core.List.{List, [], ◌∷◌, ◌++◌, append_assoc}
 use Rattle.std.proofs.Math.ListN.{length-append}
-use Rattle.wire.specs.Header.{parsed}
-use Rattle.wire.specs.declared.header.Header.TheVariants as header
+use Rattle.wire.specs.Header.{request_of, parsed}
 use Rattle.engine.specs.declared.types.Said.{Said}
 use Rattle.engine.specs.World.{Given, World, at_e, Out, out_of}
 use Rattle.engine.specs.Reply.{Ran, ran, replied, ends}
@@ -179,7 +178,7 @@ module _ (g : Given) (w : World) (z : w.e.up.left ≡ 0) where
             ap (λ (o : Out). feeds g (at_said s o.w) b) e ∙ ap (λ (o : Out). feeds g o.w b) (sym (k.2 s)) ∙ sym (c s) ∙ l s ∙ c w.e.said;
       }
 
-  module _ (h m : List ℕ) (n : length h ≡ 16) (r : 16 + length m ≤ length w.request) (c k : ℕ) (p : parsed h ≡ header.Request c k (length m)) (o : c ≡ 0x12 → ⊥)
+  module _ (h m : List ℕ) (n : length h ≡ 16) (r : 16 + length m ≤ length w.request) (c k : ℕ) (p : parsed h ≡ request_of c k (length m)) (o : c ≡ 0x12 → ⊥)
       (t : length m ≤ 8192) where
     frame_lays : Lays g (emptied_at w) (h ++ m)
     frame_lays s =

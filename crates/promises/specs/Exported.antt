@@ -13,7 +13,11 @@ use Rattle.lamjhotu.proofs.calls.lamjhotu_reset.Reads as reset
 use Rattle.lamjhotu.proofs.calls.lamjhotu_host_upgrading.Reads as host_upgrading
 use Rattle.lamjhotu.proofs.calls.lamjhotu_reset_requested.Reads as reset_requested
 use Rattle.promises.specs.Fixed.{meet}
-use Rattle.promises.specs.Clauses.{Fixes, Returns, past8}
+use Rattle.promises.specs.Clauses.{Fixes, Returns}
+
+-- the arguments at exit behind the first eight
+abbrev past8 : {A B C D E F G H X : Type 0} → A × (B × (C × (D × (E × (F × (G × (H × X))))))) → X
+past8 s = s.1.1.1.1.1.1.1.1
 
 -- an answer and the record's bytes
 told_fixed : (d : Told) (n n' : ℕ) (s s' : List ℕ) → told n s ≡ d → told n' s' ≡ d → (n ≡ n') × (s ≡ s')

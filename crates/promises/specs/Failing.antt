@@ -2,7 +2,7 @@
 -- not hold together, whichever of them fails first: each lemma takes that the tests of its command lead to nothing, or to a failure, and
 -- gives the fail reply (`write_fails` and its like); `read_odd` and `table_odd` take the tests that give the odd reply.
 -- Gives.antt refutes a test by each row of Why.antt.
-use Rattle.std.specs.Prelude.{◌≡◌, Bool, true, false, ◌&&◌, ℕ, ◌+◌, ◌-◌, ◌≤◌, ◌<◌, leb, eqb, take, drop}
+use Rattle.std.specs.Prelude.{◌≡◌, Option, None, Some, Result, Ok, Err, Bool, true, false, ◌&&◌, ℕ, ◌+◌, ◌-◌, ◌≤◌, ◌<◌, leb, eqb, take, drop}
 use Rattle.std.proofs.Math.Path.{refl, ap}
 use Rattle.std.proofs.Common.{◌∙◌, arith}
 use Rattle.std.proofs.Math.Bool.{cond}
@@ -15,19 +15,14 @@ use Rattle.wire.specs.Bytes.{bytes_of, word_at}
 use Rattle.storage.specs.World.{Told}
 use Rattle.storage.specs.Store.{flushing, erasing}
 use Rattle.storage.specs.Partition.{lookup}
-use Rattle.storage.specs.declared.partition.Found.{Found}
-use Rattle.storage.specs.declared.partition.Found.TheVariants as found
-use Rattle.engine.specs.declared.command.Pair.TheVariants.{Both}
+use Rattle.storage.specs.declared.types.CallError.{CallError}
 use Rattle.engine.specs.declared.shell.Line.{Line}
 use Rattle.engine.specs.declared.shell.Line.TheVariants as line
-use Rattle.engine.specs.declared.shell.Text.{Text}
-use Rattle.engine.specs.declared.shell.Text.TheVariants as text
-use Rattle.engine.specs.declared.shell.Window.TheVariants as window
 use Rattle.engine.specs.World.{Given, World, dev_of, at_dev}
 use Rattle.engine.specs.Reply.{Answer, ok, fail, odd, sent, whether, Ran, ran}
 use Rattle.engine.specs.Command.{table_text, inside, read_by, read_of, Wrote, wrote, write_by, write_of}
 use Rattle.engine.specs.Storing.{after_flush, end_upgrade, crc_query, probed, read_fwc_by, read_fwc, erased_by, erase_storage, partition_field, found_at, target_by, target_of, answer_to, aims, is_meta, set_meta}
-use Rattle.engine.specs.Shell.{text_of, line_of, window_of}
+use Rattle.engine.specs.Shell.{line_of, window_of}
 use Rattle.engine.specs.Running.{run_erase, run_write, run_read, run_boot, run_by, run_line, shell_by, shell}
 use Rattle.promises.specs.Why.{line_in, Off, cut_to, out_told, in_told, OutWhy, InWhy, RunWhy, Beyond, meta_in, out_window, out_short, out_flush, in_window, in_short}
 use Rattle.promises.specs.Picked.{picked, and_both}
@@ -61,7 +56,7 @@ module _ (g : Given) (c : ℕ) (bytes : List ℕ) (w : World) where
   unfolding write_of
   write_fails h = pair_says g c bytes w (λ p. (write_by w.e.base w.scratch bytes p).answer ≡ fail) both (λ i. refl)
     where
-      both : 8 ≤ length bytes → (write_by w.e.base w.scratch bytes (Both a m)).answer ≡ fail
+      both : 8 ≤ length bytes → (write_by w.e.base w.scratch bytes (Some (a, m))).answer ≡ fail
       both i =
           picked (λ (r : Wrote). r.answer ≡ fail) (leb m (length bytes - 8) && inside w.e.base (length w.scratch) a m) _ (wrote fail w.scratch)
           (λ e. let k = and_both (leb m (length bytes - 8)) _ e in absurd (h i (leb-true m (length bytes - 8) k.0) (not_beyond g c bytes w a m k.1))) (λ e. refl)
@@ -111,17 +106,17 @@ module _ (g : Given) (c : ℕ) (bytes : List ℕ) (w : World) where
       (λ e. refl)
 
   -- a partition field that is not empty: "Unknown: fails"
-  pub target_fails : (partition_field (meta_in bytes) ≡ [] → ⊥) → ((o : ℕ) → lookup g.lists (partition_field (meta_in bytes)) ≡ found.At o → ⊥)
+  pub target_fails : (partition_field (meta_in bytes) ≡ [] → ⊥) → ((o : ℕ) → lookup g.lists (partition_field (meta_in bytes)) ≡ Ok (Some o) → ⊥)
       → answer_to (target_of g.lists (meta_in bytes)) ≡ fail
   unfolding target_of
   target_fails = go (partition_field (meta_in bytes))
     where
-      by : (x : Found) → ((o : ℕ) → x ≡ found.At o → ⊥) → answer_to (found_at x) ≡ fail
-      by (found.At o) h = absurd (h o refl)
-      by found.Nothing h = refl
-      by found.Refused h = refl
+      by : (x : Result (Option ℕ) CallError) → ((o : ℕ) → x ≡ Ok (Some o) → ⊥) → answer_to (found_at x) ≡ fail
+      by (Ok (Some o)) h = absurd (h o refl)
+      by (Ok None) h = refl
+      by (Err x) h = refl
 
-      go : (f : List ℕ) → (f ≡ [] → ⊥) → ((o : ℕ) → lookup g.lists f ≡ found.At o → ⊥) → answer_to (target_by g.lists f) ≡ fail
+      go : (f : List ℕ) → (f ≡ [] → ⊥) → ((o : ℕ) → lookup g.lists f ≡ Ok (Some o) → ⊥) → answer_to (target_by g.lists f) ≡ fail
       go [] h k = absurd (h refl)
       go (x ∷ xs) h k = by (lookup g.lists (x ∷ xs)) k
 
@@ -152,7 +147,7 @@ module _ (g : Given) (c : ℕ) (bytes : List ℕ) (w : World) where
       no (out_short h) i j k = h j
       no (out_flush h) i j k = h k
 
-      at : (Off w addr → ⊥) → Failed (run_write g.lent off (window.At (addr - w.e.base) (cut_to w addr len)) (asks g c bytes w))
+      at : (Off w addr → ⊥) → Failed (run_write g.lent off (Some (record { place = addr - w.e.base; len = cut_to w addr len })) (asks g c bytes w))
       at i =
           let u = at_dev t.dev (asks g c bytes w) in
           picked Failed (eqb t.count (cut_to w addr len)) (ran (whether (eqb f.status 0)) (at_dev f.dev u)) (ran fail u)
@@ -176,21 +171,21 @@ module _ (g : Given) (c : ℕ) (bytes : List ℕ) (w : World) where
   boot_fails addr len y = window_says g c bytes w addr len (λ x. Failed (run_boot x (asks g c bytes w))) (λ i. absurd (i y)) (λ i. refl)
 
   -- a line that asks for something, for each of its reasons
-  pub run_fails : (x : Line) → RunWhy g.lent w x → Failed (run_by g.lent (asks g c bytes w) x)
+  pub run_fails : (x : Option Line) → RunWhy g.lent w x → Failed (run_by g.lent (asks g c bytes w) x)
   unfolding run_erase
-  run_fails line.Bad y = absurd y
-  run_fails line.Done y = absurd y
-  run_fails (line.Erase start size) y = let t = erasing g.lent start size (dev_of w) in whether_fails (eqb t.status 0) (λ e. y (eqb-true t.status 0 e))
-  run_fails (line.Write off len addr) y = out_fails off len addr y
-  run_fails (line.Read off len addr) y = in_fails off len addr y
-  run_fails (line.Boot addr len) y = boot_fails addr len y
+  run_fails None y = absurd y
+  run_fails (Some line.Done) y = absurd y
+  run_fails (Some (line.Erase start size)) y = let t = erasing g.lent start size (dev_of w) in whether_fails (eqb t.status 0) (λ e. y (eqb-true t.status 0 e))
+  run_fails (Some (line.Write off len addr)) y = out_fails off len addr y
+  run_fails (Some (line.Read off len addr)) y = in_fails off len addr y
+  run_fails (Some (line.Boot addr len)) y = boot_fails addr len y
 
   -- RUN_SHELL_STR: "The line is a u32 length and that many UTF-8 bytes", which is run
   pub shell_fails : (4 ≤ length bytes → 4 + a ≤ length bytes → is_utf8 (line_in bytes) ≡ true → Failed (run_by g.lent (asks g c bytes w) (line_of (line_in bytes))))
       → Failed (shell g.lent bytes w)
-  unfolding shell text_of run_line
+  unfolding shell run_line
   shell_fails h =
-      picked (λ (x : Text). Failed (shell_by g.lent bytes w x)) (leb 4 (length bytes) && (leb (4 + a) (length bytes) && is_utf8 (line_in bytes))) (text.Len a) text.Bad
+      picked (λ (x : Option ℕ). Failed (shell_by g.lent bytes w x)) (leb 4 (length bytes) && (leb (4 + a) (length bytes) && is_utf8 (line_in bytes))) (Some a) None
       (λ e. let i = and_both (leb 4 (length bytes)) _ e in
       let j = and_both (leb (4 + a) (length bytes)) _ i.1 in h (leb-true 4 (length bytes) i.0) (leb-true (4 + a) (length bytes) j.0) j.1)
       (λ e. refl)
@@ -206,7 +201,6 @@ module _ (g : Given) (c : ℕ) (bytes : List ℕ) (w : World) where
   seen = take m (drop (a - w.e.base) w.scratch)
 
   seen_whole : inside w.e.base (length w.scratch) a m ≡ true → length seen ≡ m
-  unfolding inside
   seen_whole e =
       let t = and_both (leb w.e.base a) _ e in
       let p = leb-true w.e.base a t.0 in
@@ -226,12 +220,10 @@ module _ (g : Given) (c : ℕ) (bytes : List ℕ) (w : World) where
 
   -- an empty text
   pub table_fails : g.table ≡ [] → table_text g.table ≡ fail
-  unfolding table_text
   table_fails e = ap table_text e
 
   -- "a table text over 4,096"
   pub table_odd : 4096 < length g.table → table_text g.table ≡ odd
-  unfolding table_text
   table_odd = go g.table
     where
       go : (t : List ℕ) → 4096 < length t → table_text t ≡ odd

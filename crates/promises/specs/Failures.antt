@@ -18,17 +18,16 @@ use borrow.Author.Tests.{eq-eqb, ne_eqb}
 use Rattle.std.proofs.Math.ListN.{length, length-append}
 use Rattle.wire.specs.Bytes.{bytes_of}
 use Rattle.wire.specs.Crc.{crc_update}
-use Rattle.wire.specs.Header.{reply_magic, header_of, parsed}
-use Rattle.wire.specs.declared.header.Header.TheVariants as header
+use Rattle.wire.specs.Header.{reply_magic, header_of, request_of, parsed}
 use Rattle.storage.specs.World.{Lent}
 use Rattle.storage.specs.Open.{one_of}
 use Rattle.storage.specs.Store.{flushing, writing, reading}
 use Rattle.storage_laws.specs.Bounds.{either}
 use Rattle.engine.specs.World.{Given, World, with_up, at_e, dev_of, at_dev, Out, out_of}
 use Rattle.engine.specs.Reply.{Answer, ok, fail, whether, ran, status_by, reply_by, replied, ends}
-use Rattle.engine.specs.Command.{short_by, short_of, plain}
+use Rattle.engine.specs.Command.{plain}
 use Rattle.engine.specs.Storing.{probed, crc_query}
-use Rattle.engine.specs.Exec.{group_of, storing, runs, begun, answered}
+use Rattle.engine.specs.Exec.{storing, runs, begun, answered}
 use Rattle.engine.specs.Stream.{burn_by, fed_by, fed, taken, settled_by, settled, finishes}
 use Rattle.engine.specs.Feed.{feeds}
 use Rattle.engine.specs.Api.{fits, writes}
@@ -46,7 +45,7 @@ use Rattle.promises.specs.Kept.{fail_length}
 
 -- ---- a command that fails
 
-module _ (g : Given) (v : World) (f : fits g v ≡ true) (b : Between v.e) (h m : List ℕ) (n : length h ≡ 16) (c s : ℕ) (p : parsed h ≡ header.Request c s (length m))
+module _ (g : Given) (v : World) (f : fits g v ≡ true) (b : Between v.e) (h m : List ℕ) (n : length h ≡ 16) (c s : ℕ) (p : parsed h ≡ request_of c s (length m))
     (o : c ≡ 0x12 → ⊥) (t : length m ≤ 8192) where
   -- as a command finds the world
   abbrev pub found : World
@@ -84,11 +83,10 @@ module _ (l : Lent) (p : List ℕ) (w : World) where
   fed_either P = either P w.e.up.aimed _ _
 
   one_stays : (old count n : ℕ) → old ≡ 1 → burn_by old count n ≡ 1
-  unfolding burn_by
   one_stays old count n e = either (λ (b : ℕ). b ≡ 1) (eqb count n) old (cond (eqb old 0) 1 old) e (either (λ (b : ℕ). b ≡ 1) (eqb old 0) 1 old refl e)
 
   short_burn : w.e.up.burn ≡ 0 → Short l p w → (fed l p w).e.up.burn ≡ 1
-  unfolding fed burn_by
+  unfolding fed
   short_burn z s =
       rw s.0
       (rw (ne_eqb (writing l (w.e.up.target + w.e.up.written) p (dev_of w)).count (length p) s.1, eq-eqb w.e.up.burn 0 z) refl)
@@ -250,7 +248,7 @@ module _ (g : Given) (v : World) (f : fits g v ≡ true) (e : v.e.frame ≡ reco
       ∙ frame_done g v z k.head k.body k.sixteen (omega (arith, k.most, (in_bounds g v f).fit.mid.request)) (number a) k.status k.says (not_send a) k.most
 
   burn_run : (m room : List ℕ) → runs g 0x14 m (asked 0x14 room) ≡ ran (ok (bytes_of 4 v.e.up.burn)) (asked 0x14 room)
-  unfolding runs group_of one_of plain short_by short_of
+  unfolding runs one_of plain
   burn_run m room = refl
 
   -- the burn query tells the update's burn
@@ -265,7 +263,7 @@ module _ (g : Given) (v : World) (f : fits g v ≡ true) (e : v.e.frame ≡ reco
     flushed room = at_dev (flushing g.lent (dev_of v)).dev (asked 0x13 room)
 
     crc_run : (m room : List ℕ) → runs g 0x13 m (asked 0x13 room) ≡ ran (ok (bytes_of 4 v.e.up.crc)) (probed g.lent (flushed room))
-    unfolding runs group_of one_of storing crc_query
+    unfolding runs one_of storing crc_query
     crc_run m room =
         let x = asked 0x13 room in
         ap (λ (b : Bool). cond b (ran (ok (bytes_of 4 v.e.up.crc)) (probed g.lent (flushed room))) (ran fail (flushed room))) (eq-eqb (flushing g.lent (dev_of v)).status 0 t)

@@ -7,7 +7,7 @@
 -- same of the contracts themselves, as the checker makes them from src/.
 --
 -- Here: the public functions of wire and text, in the order of src/, each in the words of its `ensures`.
-use Rattle.std.specs.Prelude.{◌≡◌, Bool, List, ℕ, drop}
+use Rattle.std.specs.Prelude.{◌≡◌, Bool, List, ℕ, Option, drop}
 use Rattle.std.proofs.Common.{sym, ◌∙◌}
 use Rattle.wire.specs.Bytes.{bytes_of, word_at, laid}
 use Rattle.wire.specs.Crc.{crc_update}
@@ -19,8 +19,6 @@ use Rattle.text.specs.Utf8.{is_utf8}
 use Rattle.text.specs.Trim.{trim}
 use Rattle.text.specs.Number.{number_in}
 use Rattle.text.specs.Token.{until, place_after, starts_with, same}
-use Rattle.text.specs.declared.number.Number.{Number}
-use Rattle.text.specs.declared.token.Place.{Place}
 
 -- ---- the argument
 
@@ -75,11 +73,11 @@ pub build_header_fixed : (magic command status len : ℕ) → Fixes (List ℕ) (
 build_header_fixed magic command status len = fixed _
 
 -- `header::parse_header`
-pub parse_header_fixed : (frame : List ℕ) → Fixes Header (λ r. r ≡ parsed frame)
+pub parse_header_fixed : (frame : List ℕ) → Fixes (Option Header) (λ r. r ≡ parsed frame)
 parse_header_fixed frame = fixed _
 
 -- `packet::parse_cbw`
-pub parse_cbw_fixed : (packet : List ℕ) → Fixes Cbw (λ r. r ≡ cbw_of packet)
+pub parse_cbw_fixed : (packet : List ℕ) → Fixes (Option Cbw) (λ r. r ≡ cbw_of packet)
 parse_cbw_fixed packet = fixed _
 
 -- `packet::csw`
@@ -89,7 +87,7 @@ csw_fixed tag status residue = fixed _
 -- ---- text: number, token, trim, utf8
 
 -- `number::parse`
-pub parse_fixed : (token : List ℕ) → Fixes Number (λ r. r ≡ number_in token)
+pub parse_fixed : (token : List ℕ) → Fixes (Option ℕ) (λ r. r ≡ number_in token)
 parse_fixed token = fixed _
 
 -- `token::token`
@@ -97,7 +95,7 @@ pub token_fixed : (line : List ℕ) (at : ℕ) → Fixes (List ℕ) (λ r. r ≡
 token_fixed line at = fixed _
 
 -- `token::place_after`
-pub place_after_fixed : (line : List ℕ) (at : ℕ) → Fixes Place (λ r. r ≡ place_after line at)
+pub place_after_fixed : (line : List ℕ) (at : ℕ) → Fixes (Option ℕ) (λ r. r ≡ place_after line at)
 place_after_fixed line at = fixed _
 
 -- `token::before_semicolon`

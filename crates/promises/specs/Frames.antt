@@ -13,9 +13,9 @@
 --   `refused_cut`    the same with the header cut across writes anyhow and reads between: nothing changed since its first byte
 -- `one_between`, `header_judged`, `header_gathers`, `one_judged`, `reset_judged`, `behind_spelled` and `refused_cut` stand in
 -- proofs/Frames.antt.
-use Rattle.std.specs.Prelude.{◌≡◌, Bool, ◌⊎◌, leb, length, get_or, replicate}
+use Rattle.std.specs.Prelude.{◌≡◌, Option, Some, Result, Ok, Err, Bool, ◌⊎◌, leb, length, get_or, replicate}
 use Rattle.std.proofs.Math.Path.{refl, sym, ap, subst}
-use Rattle.std.proofs.Common.{◌∙◌, inl, inr, add-zero, arith, drop_of_length-le, length-take-le, take_all, take_at}
+use Rattle.std.proofs.Common.{None, ◌∙◌, inl, inr, add-zero, arith, drop_of_length-le, length-take-le, take_all, take_at}
 use Rattle.std.proofs.Math.Bool.{true, false, cond}
 use mathlib.Core.List.{List, [], ◌∷◌, ◌++◌, append-nil, append_assoc}
 use Prim.Native.Nat.{ℕ, ◌+◌, ◌-◌, ◌%◌, ◌≤◌, ◌<◌, ◌^◌, min}
@@ -25,11 +25,9 @@ use Rattle.std.proofs.Math.ListN.{take, drop, length-append}
 use Rattle.std.proofs.lemmas.List.Edits.{sets, sets-eq}
 use Rattle.std.proofs.Math.Seq.{take-append-add}
 use Rattle.wire.specs.Bytes.{bytes_of, word_at}
-use Rattle.wire.specs.Header.{accepted, parsed}
-use Rattle.wire.specs.declared.header.Header.TheVariants as header
+use Rattle.wire.specs.Header.{accepted, request_of, parsed}
 use Rattle.storage.specs.declared.types.Store.{Store}
-use Rattle.storage.specs.declared.open.Opened.{Opened}
-use Rattle.storage.specs.declared.open.Opened.TheVariants as opened
+use Rattle.storage.specs.declared.types.Refusal.{Refusal}
 use Rattle.storage.specs.World.{Lent, Dev, Told}
 use Rattle.storage.specs.Store.{flushing, erasing, reading}
 use Rattle.storage.specs.Scratch.{from_scratch}
@@ -43,16 +41,10 @@ use Rattle.engine.specs.declared.exec.Group.{Group}
 use Rattle.engine.specs.declared.exec.Group.TheVariants as group
 use Rattle.engine.specs.declared.frame.Next.{Next}
 use Rattle.engine.specs.declared.frame.Next.TheVariants.{Refused, Send, Total}
-use Rattle.engine.specs.declared.storing.Target.{Target}
-use Rattle.engine.specs.declared.storing.Target.TheVariants as target
-use Rattle.engine.specs.declared.command.Pair.{Pair}
-use Rattle.engine.specs.declared.command.Pair.TheVariants.{Cut, Both}
+use Rattle.engine.specs.declared.types.Failure.{Failure}
 use Rattle.engine.specs.declared.shell.Line.{Line}
 use Rattle.engine.specs.declared.shell.Line.TheVariants as line
-use Rattle.engine.specs.declared.shell.Text.{Text}
-use Rattle.engine.specs.declared.shell.Text.TheVariants as text
 use Rattle.engine.specs.declared.shell.Window.{Window}
-use Rattle.engine.specs.declared.shell.Window.TheVariants as window
 use Rattle.engine.specs.World.{Given, World, world, with_frame, with_said, emptied, at_e, dev_of, at_dev, Out, out_of}
 use Rattle.engine.specs.Reply.{ok, fail, whether, Ran, ran}
 use Rattle.engine.specs.Command.{write_of, read_of, pair_of}
@@ -61,9 +53,8 @@ use Rattle.engine.specs.Shell.{line_of, window_of, text_of}
 use Rattle.engine.specs.Running.{run_erase, run_write, run_read, run_boot, run_by, run_line, shell_by, shell}
 use Rattle.engine.specs.Exec.{group_of, wrote_by, memory, storing, runs_by, runs}
 use Rattle.engine.specs.Frame.{next_by, next_of, refuses, headed_by, heads, grown, fills, gathers}
-use Rattle.engine.specs.Feed.{want_by, turns, cut_of, then_by, feeds}
-use Rattle.engine.specs.declared.api.Opening.{Opening}
-use Rattle.engine.specs.Api.{rooms_ok, fits, fresh, no_store, refused, opened_by, opened_nor, opened_nand, writes, reads, read_by, Read, cleared}
+use Rattle.engine.specs.Feed.{turns, cut_of, then_by, feeds}
+use Rattle.engine.specs.Api.{rooms_ok, fits, fresh, no_store, Opening, refused, opened_by, opened_nor, opened_nand, writes, reads, read_by, Read, cleared}
 use Rattle.engine.proofs.Frames.{fills_more, fills_head}
 use Rattle.engine.proofs.Feeds.{feed_step, feed_nil, then_go, then_stop, turn_frame}
 use Rattle.engine_laws.specs.Bounds.{in_bounds, write_feeds, write_fits, read_fits, Call, write, read, reset, after_all}
@@ -83,9 +74,9 @@ pub opening_between : (base : ℕ) (s : Store) → Between (fresh base s)
 opening_between base s = record { len = refl; total = refl; left = refl }
 
 -- so is what every opening gives, accepted or refused
-opened_between : (base : ℕ) (o : Opened) → Between (opened_by base o).e
-opened_between base (opened.Ready s) = opening_between base s
-opened_between base (opened.Refused n) = opening_between 0 no_store
+opened_between : (base : ℕ) (o : Result Store Refusal) → Between (opened_by base o).e
+opened_between base (Ok s) = opening_between base s
+opened_between base (Err n) = opening_between 0 no_store
 
 module _ (request reply chip : ℕ) (l : Lists) (base scratch stage device : ℕ) where
   pub nor_between : (buffer : ℕ) → Between (opened_nor request reply chip buffer l base scratch stage device).e
@@ -140,9 +131,9 @@ module _ (l : Lent) (w : World) where
   unfolding read_fwc
   fwc_same d = go (pair_of d)
     where
-      go : (p : Pair) → Same w (read_fwc_by l w p)
-      go Cut = refl
-      go (Both off len) = refl
+      go : (p : Option (ℕ × ℕ)) → Same w (read_fwc_by l w p)
+      go None = refl
+      go (Some (off, len)) = refl
 
   erased_same : (d : List ℕ) → Same w (erase_storage l d w)
   unfolding erase_storage
@@ -155,10 +146,10 @@ module _ (l : Lent) (w : World) where
   unfolding aims
   aims_same s meta v = go (target_of s meta)
     where
-      go : (t : Target) → (aimed_at meta v.e.up t).left ≡ v.e.up.left
-      go target.None = refl
-      go (target.At o) = refl
-      go target.Unknown = refl
+      go : (t : Result (Option ℕ) Failure) → (aimed_at meta v.e.up t).left ≡ v.e.up.left
+      go (Ok None) = refl
+      go (Ok (Some o)) = refl
+      go (Err x) = refl
 
   meta_same : (s : Lists) (d : List ℕ) → Same w (set_meta l s d w)
   unfolding set_meta
@@ -168,41 +159,41 @@ module _ (l : Lent) (w : World) where
       either (Same w) (leb 512 (length d)) (cond (is_meta m) f (ran fail w)) (ran fail w)
       (either (Same w) (is_meta m) f (ran fail w) (flush_same (aims s m) (λ d. aims_same s m (at_dev d w))) refl) refl
 
-  write_same : (off : ℕ) (x : Window) → Same w (run_write l off x w)
+  write_same : (off : ℕ) (x : Option Window) → Same w (run_write l off x w)
   unfolding run_write
-  write_same off window.Out = refl
-  write_same off (window.At place len) =
-      let t = from_scratch l off place len w.scratch (dev_of w) in
+  write_same off None = refl
+  write_same off (Some x) =
+      let t = from_scratch l off x.place x.len w.scratch (dev_of w) in
       let u = at_dev t.dev w in
       let f = flushing l (dev_of u) in
-      either (Same w) (eqb t.count len) (ran (whether (eqb f.status 0)) (at_dev f.dev u)) (ran fail u) refl refl
+      either (Same w) (eqb t.count x.len) (ran (whether (eqb f.status 0)) (at_dev f.dev u)) (ran fail u) refl refl
 
-  take_same : (off : ℕ) (x : Window) → Same w (run_read l off x w)
+  take_same : (off : ℕ) (x : Option Window) → Same w (run_read l off x w)
   unfolding run_read
-  take_same off window.Out = refl
-  take_same off (window.At place len) = refl
+  take_same off None = refl
+  take_same off (Some x) = refl
 
-  boot_same : (x : Window) → Same w (run_boot x w)
+  boot_same : (x : Option Window) → Same w (run_boot x w)
   unfolding run_boot
-  boot_same window.Out = refl
-  boot_same (window.At place len) = refl
+  boot_same None = refl
+  boot_same (Some x) = refl
 
-  line_same : (x : Line) → Same w (run_by l w x)
+  line_same : (x : Option Line) → Same w (run_by l w x)
   unfolding run_erase
-  line_same line.Bad = refl
-  line_same line.Done = refl
-  line_same (line.Erase start size) = refl
-  line_same (line.Write off len addr) = write_same off (window_of w.e.base (length w.scratch) addr len)
-  line_same (line.Read off len addr) = take_same off (window_of w.e.base (length w.scratch) addr len)
-  line_same (line.Boot addr len) = boot_same (window_of w.e.base (length w.scratch) addr len)
+  line_same None = refl
+  line_same (Some line.Done) = refl
+  line_same (Some (line.Erase start size)) = refl
+  line_same (Some (line.Write off len addr)) = write_same off (window_of w.e.base (length w.scratch) addr len)
+  line_same (Some (line.Read off len addr)) = take_same off (window_of w.e.base (length w.scratch) addr len)
+  line_same (Some (line.Boot addr len)) = boot_same (window_of w.e.base (length w.scratch) addr len)
 
 shell_same : (l : Lent) (d : List ℕ) (w : World) → Same w (shell l d w)
 unfolding shell run_line
 shell_same l d w = go (text_of d)
   where
-    go : (x : Text) → Same w (shell_by l d w x)
-    go text.Bad = refl
-    go (text.Len n) = line_same l _ (line_of (take n (drop 4 d)))
+    go : (x : Option ℕ) → Same w (shell_by l d w x)
+    go None = refl
+    go (Some n) = line_same l _ (line_of (take n (drop 4 d)))
 
 module _ (g : Given) where
   memory_same : (c : ℕ) (d : List ℕ) (w : World) → Same w (memory c d w)
@@ -258,7 +249,6 @@ module _ (g : Given) where
     head_few = (in_bounds g w h.fit).fit.frame.0 h.total
 
     head_cut : cut_of w ≡ 16 - k
-    unfolding want_by
     head_cut = let i = head_few in rw (eq-eqb w.e.up.left 0 h.left, eq-eqb w.e.frame.total 0 h.total) (omega arith)
 
     head_turn : (p : List ℕ) → turns g p w ≡ fills g (grown w p)
@@ -309,7 +299,7 @@ Over h = (accepted h ≡ true) × (get_or h 6 0 ≡ 0x12 → ⊥) × (8192 < wor
 
 -- demand 3: 'refused for a wrong header or its size (1a, 1b)'
 pub refused_means : (h : List ℕ) → next_of h ≡ Refused → Wrong h ⊎ Over h
-unfolding next_of parsed
+unfolding parsed
 refused_means h = go (accepted h) refl
   where
     by : (c n : ℕ) (a b : Bool) → eqb c 0x12 ≡ a → leb n 8192 ≡ b → cond a (Send (n % 2 ^ 32)) (cond b (Total (16 + n)) Refused) ≡ Refused → (c ≡ 0x12 → ⊥) × (8192 < n)
@@ -317,13 +307,13 @@ refused_means h = go (accepted h) refl
     by c n false true p q e = let z : ◌≡◌ {A = ℕ} 0 1 = cc in absurd (omega arith)
     by c n false false p q e = (eqb-false c 0x12 p, leb-false n 8192 q)
 
-    go : (a : Bool) → accepted h ≡ a → next_by (cond a (header.Request (get_or h 6 0) (get_or h 7 0) (word_at 4 h 8)) header.Bad) ≡ Refused → Wrong h ⊎ Over h
+    go : (a : Bool) → accepted h ≡ a → next_by (cond a (request_of (get_or h 6 0) (get_or h 7 0) (word_at 4 h 8)) None) ≡ Refused → Wrong h ⊎ Over h
     go true p e = let r = by (get_or h 6 0) (word_at 4 h 8) (eqb (get_or h 6 0) 0x12) (leb (word_at 4 h 8) 8192) refl refl e in inr (p, r.0, r.1)
     go false p e = inl p
 
 -- and these are
 pub means_refused : (h : List ℕ) → Wrong h ⊎ Over h → next_of h ≡ Refused
-unfolding next_of parsed
+unfolding parsed
 means_refused h (inl p) = rw p
 means_refused h (inr r) = rw (r.0, ne_eqb (get_or h 6 0) 0x12 r.1, lt-leb (word_at 4 h 8) 8192 r.2)
 

@@ -4,7 +4,7 @@
 -- not have it (`fails_iff`, `odd_iff`, `unsupported_iff`).
 --   Between frames, a frame whose command has a reason then returns the status and leaves the reply that 01 names (`why_told`, `large_told`,
 -- `unknown_told`, proofs/Gives.antt).
-use Rattle.std.specs.Prelude.{◌≡◌, false, List, ℕ, ◌+◌, eqb, length, replicate}
+use Rattle.std.specs.Prelude.{◌≡◌, Option, false, List, ℕ, ◌+◌, eqb, length, replicate}
 use Rattle.std.proofs.Math.Path.{refl}
 use Rattle.std.proofs.Common.{sym, ap, subst, ◌∙◌, arith, length-append}
 use Rattle.text.specs.Utf8.{is_utf8}
@@ -13,11 +13,11 @@ use Rattle.storage.specs.Open.{one_of}
 use Rattle.engine.specs.declared.shell.Line.{Line}
 use Rattle.engine.specs.World.{Given, World}
 use Rattle.engine.specs.Reply.{Answer, fail, unsupported, odd, reply_by}
-use Rattle.engine.specs.Command.{table_text, short_by, short_of, long_by, long_of, plain, read_of, write_of}
+use Rattle.engine.specs.Command.{table_text, long_by, long_of, plain, read_of, write_of}
 use Rattle.engine.specs.Storing.{end_upgrade, crc_query, read_fwc, erase_storage, is_meta, set_meta}
 use Rattle.engine.specs.Shell.{line_of}
 use Rattle.engine.specs.Running.{run_by, shell}
-use Rattle.engine.specs.Exec.{group_of, memory, storing, runs}
+use Rattle.engine.specs.Exec.{memory, storing, runs}
 use Rattle.engine.proofs.Replies.{header_length}
 use Rattle.promises.specs.Why.{line_in, meta_in, Why, Large, known, write_cut, write_less, write_beyond, read_cut, read_beyond, shell_cut, shell_less, shell_text, shell_line_lem, shell_run, end_flush, meta_cut, meta_magic, meta_flush, meta_unknown, crc_flush, table_none, fwc_cut, erase_cut, erase_flush, erase_failed, read_large, table_large}
 use Rattle.promises.specs.Picked.{or_false}
@@ -33,39 +33,39 @@ module _ (g : Given) (c : ℕ) (bytes : List ℕ) (w : World) where
   by_number n x h e = subst (λ (k : ℕ). (runs g k bytes w).answer ≡ x) (sym e) h
 
   at_write : (write_of w.e.base w.scratch bytes).answer ≡ fail → c ≡ 0x02 → (runs g c bytes w).answer ≡ fail
-  unfolding runs group_of one_of memory
+  unfolding runs one_of memory
   at_write = by_number 0x02 fail
 
   at_read : (x : Answer) → read_of w.e.base w.scratch bytes ≡ x → c ≡ 0x03 → (runs g c bytes w).answer ≡ x
-  unfolding runs group_of one_of memory
+  unfolding runs one_of memory
   at_read = by_number 0x03
 
   at_shell : Failed (shell g.lent bytes w) → c ≡ 0x05 → (runs g c bytes w).answer ≡ fail
-  unfolding runs group_of one_of
+  unfolding runs one_of
   at_shell = by_number 0x05 fail
 
   at_end : Failed (end_upgrade g.lent w) → c ≡ 0x0B → (runs g c bytes w).answer ≡ fail
-  unfolding runs group_of one_of storing
+  unfolding runs one_of storing
   at_end = by_number 0x0B fail
 
   at_meta : Failed (set_meta g.lent g.lists bytes w) → c ≡ 0x10 → (runs g c bytes w).answer ≡ fail
-  unfolding runs group_of one_of storing
+  unfolding runs one_of storing
   at_meta = by_number 0x10 fail
 
   at_crc : Failed (crc_query g.lent w) → c ≡ 0x13 → (runs g c bytes w).answer ≡ fail
-  unfolding runs group_of one_of storing
+  unfolding runs one_of storing
   at_crc = by_number 0x13 fail
 
   at_table : (x : Answer) → table_text g.table ≡ x → c ≡ 0x17 → (runs g c bytes w).answer ≡ x
-  unfolding runs group_of one_of plain short_by short_of long_by long_of
+  unfolding runs one_of plain long_by long_of
   at_table = by_number 0x17
 
   at_fwc : Failed (read_fwc g.lent bytes w) → c ≡ 0x18 → (runs g c bytes w).answer ≡ fail
-  unfolding runs group_of one_of storing
+  unfolding runs one_of storing
   at_fwc = by_number 0x18 fail
 
   at_erase : Failed (erase_storage g.lent bytes w) → c ≡ 0x1B → (runs g c bytes w).answer ≡ fail
-  unfolding runs group_of one_of storing
+  unfolding runs one_of storing
   at_erase = by_number 0x1B fail
 
   -- ---- every reason gives its answer
@@ -80,7 +80,7 @@ module _ (g : Given) (c : ℕ) (bytes : List ℕ) (w : World) where
   why_fails (shell_cut n h) = at_shell (shell_fails g c bytes w (λ i j k. absurd (omega arith))) n
   why_fails (shell_less n h) = at_shell (shell_fails g c bytes w (λ i j k. absurd (omega arith))) n
   why_fails (shell_text n h) = at_shell (shell_fails g c bytes w (λ i j k. absurd (not_both (is_utf8 (line_in bytes)) k h))) n
-  why_fails (shell_line_lem n h) = at_shell (shell_fails g c bytes w (λ i j k. ap (λ (x : Line). (run_by g.lent (asks g c bytes w) x).answer) (line_bad (line_in bytes) h))) n
+  why_fails (shell_line_lem n h) = at_shell (shell_fails g c bytes w (λ i j k. ap (λ (x : Option Line). (run_by g.lent (asks g c bytes w) x).answer) (line_bad (line_in bytes) h))) n
   why_fails (shell_run n h) = at_shell (shell_fails g c bytes w (λ i j k. run_fails g c bytes w (line_of (line_in bytes)) h)) n
   why_fails (end_flush n h) = at_end (upgrade_fails g c bytes w h) n
   why_fails (meta_cut n h) = at_meta (meta_fails g c bytes w (λ i j k. absurd (omega arith))) n
@@ -101,7 +101,7 @@ module _ (g : Given) (c : ℕ) (bytes : List ℕ) (w : World) where
 
   -- "An unsupported command (also 0x01 and 0x0D)": each that 01 does not have
   pub unknown_unsupported : one_of known c ≡ false → (runs g c bytes w).answer ≡ unsupported
-  unfolding runs group_of one_of plain short_by short_of long_by long_of
+  unfolding runs one_of plain long_by long_of
   unknown_unsupported h =
       let z₁ = or_false (eqb c 0x02) _ h in
       let z₂ = or_false (eqb c 0x03) _ z₁.1 in

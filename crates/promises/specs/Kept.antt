@@ -3,26 +3,23 @@
 -- cut across writes anyhow (both in proofs/Kept.antt). A reset keeps both flags, scratch and storage, and nothing else: `reset_kept`.
 -- And a read gives the bytes that wait, of which the promises speak: `read_waits`.
 -- The statements spell out the record field by field, so that they say the same whatever the definitions become.
-use Rattle.std.specs.Prelude.{◌≡◌, Bool, true, false, List, [], ◌∷◌, ◌++◌, ℕ, ◌+◌, ◌-◌, ◌≤◌, min, length, take, drop, replicate}
+use Rattle.std.specs.Prelude.{◌≡◌, Option, None, Some, Result, Ok, Err, Bool, true, false, List, [], ◌∷◌, ◌++◌, ℕ, ◌+◌, ◌-◌, ◌≤◌, min, length, take, drop, replicate}
 use Rattle.std.proofs.Math.Path.{refl, ap}
 use Rattle.std.proofs.Common.{sym, subst, ◌∙◌, arith, le-leb, eq-eqb, length-drop, length-take-le}
 use Rattle.std.proofs.Math.Bool.{cond}
 use Rattle.std.proofs.lemmas.List.Edits.{sets-eq}
-use Rattle.wire.specs.Header.{reply_magic, parsed}
-use Rattle.wire.specs.declared.header.Header.TheVariants as header
+use Rattle.wire.specs.Header.{reply_magic, request_of, parsed}
 use Rattle.storage.specs.World.{Lent}
 use Rattle.storage.specs.Open.{one_of}
 use Rattle.storage.specs.Store.{flushing}
 use Rattle.storage.specs.Partition.{Lists, lookup}
-use Rattle.storage.specs.declared.partition.Found.{Found}
-use Rattle.storage.specs.declared.partition.Found.TheVariants as found
-use Rattle.engine.specs.declared.api.Got.TheVariants as got
-use Rattle.engine.specs.declared.storing.Target.{Target}
-use Rattle.engine.specs.declared.storing.Target.TheVariants as target
+use Rattle.storage.specs.declared.types.CallError.{CallError}
+use Rattle.engine.specs.declared.types.Failure.{Failure}
+use Rattle.engine.specs.declared.types.Failure.TheVariants.{Failed}
 use Rattle.engine.specs.World.{Given, World, with_up, at_e, dev_of, at_dev, Out, out_of}
 use Rattle.engine.specs.Reply.{fail, ran, status_by, reply_by, replied, ends}
 use Rattle.engine.specs.Storing.{after_flush, partition_field, found_at, target_by, target_of, stored, aimed_at, answer_to, aims, is_meta, set_meta}
-use Rattle.engine.specs.Exec.{group_of, storing, runs, begun, answered}
+use Rattle.engine.specs.Exec.{storing, runs, begun, answered}
 use Rattle.engine.specs.Feed.{feeds}
 use Rattle.engine.specs.Api.{fits, Read, reads, read_by}
 use Rattle.engine.proofs.Replies.{header_length}
@@ -48,12 +45,12 @@ pub record LostFrame (g : Given) (f : List ℕ) : Type 0 where
   pub is : f ≡ head ++ body
   pub sixteen : length head ≡ 16
   pub status : ℕ
-  pub says : parsed head ≡ header.Request 0x10 status (length body)
+  pub says : parsed head ≡ request_of 0x10 status (length body)
   pub most : length body ≤ 8192
   pub least : 512 ≤ length body
   pub meta : is_meta (meta_in body) ≡ true
   pub named : partition_field (meta_in body) ≡ [] → ⊥
-  pub lost : (o : ℕ) → lookup g.lists (partition_field (meta_in body)) ≡ found.At o → ⊥
+  pub lost : (o : ℕ) → lookup g.lists (partition_field (meta_in body)) ≡ Ok (Some o) → ⊥
 
 -- what they leave: status 1, a fail reply, the metadata stored and valid, all else of the update as it was, and a flush
 pub record Kept (l : Lent) (meta : List ℕ) (w : World) (o : Out) : Type 0 where
@@ -71,16 +68,16 @@ pub record Kept (l : Lent) (meta : List ℕ) (w : World) (o : Out) : Type 0 wher
   pub scratch : o.w.scratch ≡ w.scratch
   pub between : Between o.w.e
 
-unknown_is : (l : Lists) (m : List ℕ) → (partition_field m ≡ [] → ⊥) → ((o : ℕ) → lookup l (partition_field m) ≡ found.At o → ⊥) → target_of l m ≡ target.Unknown
+unknown_is : (l : Lists) (m : List ℕ) → (partition_field m ≡ [] → ⊥) → ((o : ℕ) → lookup l (partition_field m) ≡ Ok (Some o) → ⊥) → target_of l m ≡ Err Failed
 unfolding target_of
 unknown_is l m n h = go (partition_field m) refl
   where
-    by : (name : List ℕ) → partition_field m ≡ name → (f : Found) → lookup l name ≡ f → found_at f ≡ target.Unknown
-    by name e (found.At o) q = absurd (h o (ap (lookup l) e ∙ q))
-    by name e found.Nothing q = refl
-    by name e found.Refused q = refl
+    by : (name : List ℕ) → partition_field m ≡ name → (f : Result (Option ℕ) CallError) → lookup l name ≡ f → found_at f ≡ Err Failed
+    by name e (Ok (Some o)) q = absurd (h o (ap (lookup l) e ∙ q))
+    by name e (Ok None) q = refl
+    by name e (Err x) q = refl
 
-    go : (name : List ℕ) → partition_field m ≡ name → target_by l name ≡ target.Unknown
+    go : (name : List ℕ) → partition_field m ≡ name → target_by l name ≡ Err Failed
     go [] e = absurd (n e)
     go (b ∷ name) e = by (b ∷ name) e (lookup l (b ∷ name)) refl
 
@@ -101,7 +98,7 @@ module _ (g : Given) (w : World) (z : w.e.up.left ≡ 0) (r : length w.request �
   left = at_e (with_up (stored meta w.e.up) flushed.e) flushed
 
   runs_meta : runs g 0x10 k.body asked ≡ set_meta g.lent g.lists k.body asked
-  unfolding runs group_of one_of storing
+  unfolding runs one_of storing
   runs_meta = refl
 
   set_lost : set_meta g.lent g.lists k.body asked ≡ ran fail left
@@ -111,7 +108,7 @@ module _ (g : Given) (w : World) (z : w.e.up.left ≡ 0) (r : length w.request �
       ap (λ (b : Bool). cond b (cond (is_meta meta) after (ran fail asked)) (ran fail asked)) (le-leb 512 (length k.body) k.least)
       ∙ ap (λ (b : Bool). cond b after (ran fail asked)) k.meta
       ∙ ap (λ (b : Bool). cond b (aims g.lists meta flushed) (ran fail flushed)) (eq-eqb (flushing g.lent (dev_of w)).status 0 t)
-      ∙ ap (λ (x : Target). ran (answer_to x) (at_e (with_up (aimed_at meta w.e.up x) flushed.e) flushed)) (unknown_is g.lists meta k.named k.lost)
+      ∙ ap (λ (x : Result (Option ℕ) Failure). ran (answer_to x) (at_e (with_up (aimed_at meta w.e.up x) flushed.e) flushed)) (unknown_is g.lists meta k.named k.lost)
 
   pub lost_is : feeds g (emptied_at w) f ≡ out_of 1 (replied 0x10 fail left)
   unfolding ends status_by
@@ -189,7 +186,7 @@ reset_kept g w =
 -- "A read copies the next min(room, left) bytes and touches no byte of the room beyond": into a room that takes them all it gives the
 -- bytes that wait, and none wait behind it
 pub read_waits : (g : Given) (w : World) → fits g w ≡ true → (room : List ℕ) → length (waiting w) ≤ length room
-    → ((reads g w room).got ≡ got.Count (length (waiting w))) × ((reads g w room).room ≡ waiting w ++ drop (length (waiting w)) room) × (waiting (at_e (reads g w room).e w) ≡ [])
+    → ((reads g w room).got ≡ Ok (length (waiting w))) × ((reads g w room).room ≡ waiting w ++ drop (length (waiting w)) room) × (waiting (at_e (reads g w room).e w) ≡ [])
 unfolding reads
 read_waits g w f room h =
     let s = w.e.said in
@@ -200,7 +197,7 @@ read_waits g w f room h =
     let e : reads g w room ≡ read_by w room n = rw f (ap (read_by w room) k) in
     let o : s.len - (s.pos + n) ≡ 0 = omega arith in
     let z : 0 + length (waiting w) ≡ length (waiting w) = omega arith in (
-      ap (λ (r : Read). r.got) e ∙ ap got.Count (sym l),
+      ap (λ (r : Read). r.got) e ∙ ap Ok (sym l),
       ap (λ (r : Read). r.room) e ∙ sets-eq (waiting w) room 0 (omega arith) ∙ ap (λ (j : ℕ). waiting w ++ drop j room) z,
       ap (λ (r : Read). waiting (at_e r.e w)) e ∙ ap (λ (j : ℕ). take j (drop (s.pos + n) w.reply)) o,
     )

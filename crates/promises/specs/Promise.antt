@@ -14,9 +14,8 @@ use Rattle.storage.specs.Partition.{end_of}
 use Rattle.storage_laws.specs.Faults.{QuietFrom}
 use Rattle.storage_laws.specs.View.{Shows, view}
 use Rattle.storage_laws.specs.Reasons.{nor_opening_lem}
-use Rattle.engine.specs.declared.api.Opening.{Opening}
 use Rattle.engine.specs.World.{Given, World, at_e, dev_of, Out}
-use Rattle.engine.specs.Api.{fits, fresh}
+use Rattle.engine.specs.Api.{fits, fresh, Opening}
 use Rattle.engine_laws.specs.Bounds.{Call, write, read, reset, after, after_all, write_feeds, write_fits, read_fits, reset_fits, nor_opening, nor_opening_is, nor_opening_fits}
 use Rattle.engine_laws.specs.Carry.{feeds_left}
 use Rattle.engine_laws.specs.Split.{Steady, order_steady, On, on_start, on_closed}

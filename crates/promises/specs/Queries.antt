@@ -6,17 +6,16 @@ use Rattle.std.proofs.Common.{sym, subst, ◌∙◌, arith}
 use Rattle.std.proofs.Math.ListN.{length}
 use Rattle.wire.specs.Bytes.{bytes_of}
 use Rattle.wire.specs.Crc.{crc32}
-use Rattle.wire.specs.Header.{parsed}
-use Rattle.wire.specs.declared.header.Header.TheVariants as header
+use Rattle.wire.specs.Header.{request_of, parsed}
 use Rattle.storage.specs.Store.{reading}
 use Rattle.storage.specs.Open.{one_of}
 use Rattle.storage_laws.specs.Bounds.{either}
 use Rattle.engine.specs.declared.types.Update.{Update}
 use Rattle.engine.specs.World.{Given, World, at_e, dev_of, at_dev, Out}
 use Rattle.engine.specs.Reply.{ok, ran, status_by, reply_by, replied, ends}
-use Rattle.engine.specs.Command.{short_by, short_of, plain}
+use Rattle.engine.specs.Command.{plain}
 use Rattle.engine.specs.Storing.{after_flush, probed, crc_query}
-use Rattle.engine.specs.Exec.{group_of, storing, runs, begun, answered}
+use Rattle.engine.specs.Exec.{storing, runs, begun, answered}
 use Rattle.engine.specs.Feed.{feeds}
 use Rattle.engine.specs.Api.{fits}
 use Rattle.engine_laws.specs.Bounds.{in_bounds, write_feeds, write_fits}
@@ -49,7 +48,7 @@ pub record QueryFrame (a : Question) (f : List ℕ) : Type 0 where
   pub is : f ≡ head ++ body
   pub sixteen : length head ≡ 16
   pub status : ℕ
-  pub says : parsed head ≡ header.Request (number a) status (length body)
+  pub says : parsed head ≡ request_of (number a) status (length body)
   pub most : length body ≤ 8192
 
 -- what it leaves: status 0, the truth as a word of four bytes, and the update as it was
@@ -86,7 +85,7 @@ module _ (g : Given) (v : World) (p c : List ℕ) (u : Updated p c v) (q : Quiet
       (record { frame = refl; up = refl; held = t.1; chip = t.0; reply = refl }) (asked_same n room)
 
   pub crc_told : (m room : List ℕ) → (x : World) × Same v x × (runs g 0x13 m (asked 0x13 room) ≡ ran (ok (bytes_of 4 (crc32 p))) x)
-  unfolding runs group_of one_of storing crc_query
+  unfolding runs one_of storing crc_query
   crc_told m room =
       let l = g.lent in
       let x = asked 0x13 room in (
@@ -97,7 +96,7 @@ module _ (g : Given) (v : World) (p c : List ℕ) (u : Updated p c v) (q : Quiet
       )
 
   pub burn_told : (m room : List ℕ) → (x : World) × Same v x × (runs g 0x14 m (asked 0x14 room) ≡ ran (ok (bytes_of 4 0)) x)
-  unfolding runs group_of one_of plain short_by short_of
+  unfolding runs one_of plain
   burn_told m room = let x = asked 0x14 room in (x, asked_same 0x14 room, ap (λ (n : ℕ). ran (ok (bytes_of 4 n)) x) u.burn)
 
   word_length : (n : ℕ) → length (bytes_of 4 n) ≡ 4

@@ -4,22 +4,21 @@
 -- status 0: `write_why`. It has status 9 only by a room, a number or a part that row 9 names: `write_nine`, and `read_nine` of a read.
 -- The condition `Headed` (Turns.antt) holds from an opening on, whatever is called (`run_headed`), so it is none of `nor_write_why` and
 -- `nand_write_why`. Replies, those with status 0 too, are in Replies.antt.
-use Rattle.std.specs.Prelude.{◌≡◌, true, false, ◌&&◌, cond, ◌⊎◌, eqb, ltb, length, take, drop, get_or}
+use Rattle.std.specs.Prelude.{◌≡◌, Result, Ok, Err, true, false, ◌&&◌, cond, ◌⊎◌, eqb, ltb, length, take, drop, get_or}
 use Rattle.std.proofs.Math.Path.{refl}
 use Rattle.std.proofs.Common.{sym, ap, ◌∙◌, inl, inr, le_refl, arith, eqb-true, ltb-true, ltb-false, length-append, length-drop, drop_of_length-le, take-append-drop, take_at, drop_at, length-take-le}
 use Rattle.std.proofs.Math.Bool.{Bool}
 use mathlib.Core.List.{List, [], ◌∷◌, ◌++◌, append_assoc}
 use Prim.Native.Nat.{ℕ, zero, suc, ◌≤◌, ◌<◌}
 use Rattle.std.proofs.lemmas.Bool.{eqb-false}
-use Rattle.wire.specs.Header.{parsed}
-use Rattle.wire.specs.declared.header.Header.TheVariants as header
-use Rattle.storage.specs.declared.open.Opened.{Opened}
-use Rattle.storage.specs.declared.open.Opened.TheVariants.{Ready, Refused}
+use Rattle.wire.specs.Header.{request_of, parsed}
+use Rattle.storage.specs.declared.types.Refusal.{Refusal}
+use Rattle.storage.specs.declared.types.Store.{Store}
 use Rattle.storage.specs.Open as opens
 use Rattle.storage.specs.Open.{scratch_ok}
 use Rattle.storage.specs.Partition.{lists_ok}
 use Rattle.storage.specs.Store.{good}
-use Rattle.engine.specs.declared.api.Got.TheVariants as got
+use Rattle.storage.specs.declared.types.CallError.{CallError}
 use Rattle.engine.specs.World.{Given, World, at_e, dev_of, Out, out_of}
 use Rattle.engine.specs.Reply.{Answer, ok, fail, unsupported, odd, status_by, ends}
 use Rattle.engine.specs.Stream.{fed, finishes}
@@ -41,9 +40,9 @@ pub data TurnWhy (g : Given) (p : List ℕ) (w : World) : Type 0 where
   -- 1c, "SEND_FWC_DATA without valid metadata"
   no_metadata : get_or (gathered p w) 6 0 ≡ 0x12 → w.e.up.valid ≡ false → TurnWhy g p w
   -- 1d, "executed command fails"
-  command_failed : (c s n : ℕ) → parsed (gathered p w) ≡ header.Request c s n → Why g c (take n (drop 16 (gathered p w))) (finds p w c) → TurnWhy g p w
+  command_failed : (c s n : ℕ) → parsed (gathered p w) ≡ request_of c s n → Why g c (take n (drop 16 (gathered p w))) (finds p w c) → TurnWhy g p w
   -- 1e, "reply data 4,097 to 4,112 bytes, or a table text over 4,096"
-  reply_large : (c s n : ℕ) → parsed (gathered p w) ≡ header.Request c s n → Large g c (take n (drop 16 (gathered p w))) (finds p w c) → TurnWhy g p w
+  reply_large : (c s n : ℕ) → parsed (gathered p w) ≡ request_of c s n → Large g c (take n (drop 16 (gathered p w))) (finds p w c) → TurnWhy g p w
 
 module _ (g : Given) (p : List ℕ) (w : World) where
   finish_zero : (v : World) → (finishes g.lent v).status ≡ 0
@@ -62,7 +61,7 @@ module _ (g : Given) (p : List ℕ) (w : World) where
       no : {A : Type 0} (n : ℕ) → n ≡ 0 → n ≡ 1 → A
       no n a b = absurd (omega arith)
 
-      answer : (c s n : ℕ) → parsed (gathered p w) ≡ header.Request c s n → (a : Answer) → (makes g p w c n).answer ≡ a → status_by a ≡ 1 → TurnWhy g p w
+      answer : (c s n : ℕ) → parsed (gathered p w) ≡ request_of c s n → (a : Answer) → (makes g p w c n).answer ≡ a → status_by a ≡ 1 → TurnWhy g p w
       answer c s n e (ok bytes) q r = absurd (omega arith)
       answer c s n e fail q r = command_failed c s n e (fail_why g c (take n (drop 16 (gathered p w))) (finds p w c) q)
       answer c s n e unsupported q r = absurd (omega arith)
@@ -222,7 +221,7 @@ module _ (g : Given) (w : World) where
       go false f = unfit_why f
 
   -- and a read is refused only so
-  pub read_nine : (room : List ℕ) → (reads g w room).got ≡ got.Refused → NineWhy g w
+  pub read_nine : (room : List ℕ) {x : CallError} → (reads g w room).got ≡ Err x → NineWhy g w
   read_nine room z = go (fits g w) refl
     where
       go : (t : Bool) → fits g w ≡ t → NineWhy g w
@@ -257,9 +256,9 @@ module _ (g : Given) where
   pub idle_headed : (w : World) → fits g w ≡ true → w.e.frame.total ≡ 0 → Headed w
   idle_headed w f e = record { room = (in_bounds g w f).fit.mid.request; header = λ n. absurd (n e) }
 
-  opened_idle : (b : Bool) (base : ℕ) (o : Opened) → (cond b (opened_by base o) (refused 9)).e.frame.total ≡ 0
-  opened_idle true base (Ready s) = refl
-  opened_idle true base (Refused n) = refl
+  opened_idle : (b : Bool) (base : ℕ) (o : Result Store Refusal) → (cond b (opened_by base o) (refused 9)).e.frame.total ≡ 0
+  opened_idle true base (Ok s) = refl
+  opened_idle true base (Err n) = refl
   opened_idle false base o = refl
 
   module _ (w : World) (base stage device : ℕ) where

@@ -1,15 +1,15 @@
 -- Only named reasons, of openings: rows 9 to 14 of 01's table, "tested in that order; 10 and 11 are for NOR only, 13 for NAND only". An
 -- opening is accepted, with number 0, or has one of these numbers and failed that row's test.
-use Rattle.std.specs.Prelude.{◌≡◌, false, ℕ, ◌<◌, leb, length}
+use Rattle.std.specs.Prelude.{◌≡◌, Result, false, ℕ, ◌<◌, leb, length}
 use Rattle.std.proofs.Math.Path.{refl}
 use Rattle.std.proofs.Common.{leb-false}
-use Rattle.storage.specs.declared.open.Opened.{Opened}
+use Rattle.storage.specs.declared.types.Refusal.{Refusal}
+use Rattle.storage.specs.declared.types.Store.{Store}
 use Rattle.storage.specs.Open as opens
 use Rattle.storage.specs.Open.{scratch_ok, nor_size, numbers_ok}
 use Rattle.storage.specs.Partition.{lists_ok}
-use Rattle.engine.specs.declared.api.Opening.{Opening}
 use Rattle.engine.specs.World.{Given, World}
-use Rattle.engine.specs.Api.{rooms_ok, opened_by, opened_nor, opened_nand}
+use Rattle.engine.specs.Api.{rooms_ok, Opening, opened_by, opened_nor, opened_nand}
 use Rattle.engine_laws.specs.Bounds.{nor_opening, nand_opening}
 use Rattle.promises.specs.Picked.{picked}
 
@@ -42,7 +42,7 @@ module _ (g : Given) (w : World) (base stage device : ℕ) where
   pub nor_why : NorWhy g w base (nor_opening g w base stage device).number
   unfolding opened_nor opens.opened_nor
   nor_why =
-      let P : Opened → Type 0 = λ o. NorWhy g w base (opened_by base o).number in
+      let P : Result Store Refusal → Type 0 = λ o. NorWhy g w base (opened_by base o).number in
       picked (λ (o : Opening). NorWhy g w base o.number) (rooms_ok (length w.request) (length w.reply)) _ _
       (λ _. picked P (leb 4096 (length w.buffer)) _ _
       (λ _. picked P (nor_size (length w.chip)) _ _
@@ -54,7 +54,7 @@ module _ (g : Given) (w : World) (base stage device : ℕ) where
   pub nand_why : (page pages blocks capacity : ℕ) → NandWhy g w base page pages blocks capacity (nand_opening g w base stage device page pages blocks capacity).number
   unfolding opened_nand opens.opened_nand
   nand_why page pages blocks capacity =
-      let P : Opened → Type 0 = λ o. NandWhy g w base page pages blocks capacity (opened_by base o).number in
+      let P : Result Store Refusal → Type 0 = λ o. NandWhy g w base page pages blocks capacity (opened_by base o).number in
       picked (λ (o : Opening). NandWhy g w base page pages blocks capacity o.number) (rooms_ok (length w.request) (length w.reply)) _ _
       (λ _. picked P (lists_ok g.lists) _ _
       (λ _. picked P (numbers_ok page pages blocks (length w.chip) (length g.lent.marks) capacity) _ _

@@ -10,8 +10,7 @@ use Rattle.std.proofs.Math.Bool.{true, false}
 use Rattle.std.proofs.Math.Logic.{inl, inr, ⊎_elim}
 use Rattle.std.proofs.lemmas.Bool.{eqb-false}
 use Rattle.std.proofs.Math.Dec.{eqb}
-use Rattle.wire.specs.Header.{parsed}
-use Rattle.wire.specs.declared.header.Header.TheVariants as header
+use Rattle.wire.specs.Header.{request_of, parsed}
 use Rattle.storage.specs.World.{Lent, Told}
 use Rattle.storage.specs.Open.{one_of}
 use Rattle.storage.specs.Store.{flushing, writing}
@@ -32,7 +31,6 @@ Short l p w = (w.e.up.aimed ≡ true) × ((writing l (w.e.up.target + w.e.up.wri
 
 module _ (l : Lent) where
   burn_by_lem : (old count n : ℕ) → (burn_by old count n ≡ 0 → ⊥) → (old ≡ 0 → ⊥) ⊎ (count ≡ n → ⊥)
-  unfolding burn_by
   burn_by_lem old count n h = go (eqb count n) refl h
     where
       go : (b : Bool) → eqb count n ≡ b → (cond b old (cond (eqb old 0) 1 old) ≡ 0 → ⊥) → (old ≡ 0 → ⊥) ⊎ (count ≡ n → ⊥)
@@ -86,7 +84,7 @@ pub data FailWhy (g : Given) (p : List ℕ) (w : World) : Type 0 where
   -- 1c, "SEND_FWC_DATA without valid metadata"
   by_metadata : get_or (gathered p w) 6 0 ≡ 0x12 → w.e.up.valid ≡ false → FailWhy g p w
   -- 1d, "executed command fails"
-  by_command : (c s n : ℕ) → parsed (gathered p w) ≡ header.Request c s n → Why g c (take n (drop 16 (gathered p w))) (finds p w c) → FailWhy g p w
+  by_command : (c s n : ℕ) → parsed (gathered p w) ≡ request_of c s n → Why g c (take n (drop 16 (gathered p w))) (finds p w c) → FailWhy g p w
   -- "A data burn failure": a piece before this one came up short, this one did, or the flush behind it failed
   by_burn : (w.e.up.burn ≡ 0 → ⊥) → FailWhy g p w
   by_short : Short g.lent p w → FailWhy g p w
@@ -96,7 +94,7 @@ pub data FailWhy (g : Given) (p : List ℕ) (w : World) : Type 0 where
 
 -- and the odd one (1e)
 abbrev pub LargeWhy : Given → List ℕ → World → Type 0
-LargeWhy g p w = (c s n : ℕ) × (parsed (gathered p w) ≡ header.Request c s n) × Large g c (take n (drop 16 (gathered p w))) (finds p w c)
+LargeWhy g p w = (c s n : ℕ) × (parsed (gathered p w) ≡ request_of c s n) × Large g c (take n (drop 16 (gathered p w))) (finds p w c)
 
 -- an unsupported command: none of those that a frame may bring, nor SEND_FWC_DATA
 abbrev pub NotKnown : ℕ → Type 0
@@ -138,7 +136,7 @@ module _ (g : Given) (p : List ℕ) (w : World) where
   pub reply_why : Headed w → Replied g p w (turns g p w).w
   reply_why h = by (turns g p w) (turned g p w h).0
     where
-      command : (c s n : ℕ) → parsed (gathered p w) ≡ header.Request c s n → (c ≡ 0x12 → ⊥) → (a : Answer)
+      command : (c s n : ℕ) → parsed (gathered p w) ≡ request_of c s n → (c ≡ 0x12 → ⊥) → (a : Answer)
           → Says (Why g c (take n (drop 16 (gathered p w))) (finds p w c)) (one_of known c ≡ false) (Large g c (take n (drop 16 (gathered p w))) (finds p w c)) a → HasWhy c a
       command c s n e o (ok bytes) k = tt
       command c s n e o fail k = by_command c s n e k

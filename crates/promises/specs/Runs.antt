@@ -4,12 +4,11 @@
 -- `nand_session`).
 use Rattle.std.specs.Prelude.{◌≡◌, Bool, true, cond, ℕ, ◌-◌, ◌≤◌, min, leb, eqb, length, take}
 use Rattle.std.proofs.Math.Path.{refl, ap}
-use Rattle.std.proofs.Common.{sym, ap₂, ◌∙◌, le-leb}
+use Rattle.std.proofs.Common.{Option, None, Some, sym, ap₂, ◌∙◌, le-leb}
 use Rattle.std.proofs.Math.Bool.{false, ◌&&◌}
 use mathlib.Core.List.{List, [], ◌∷◌, ◌++◌}
 use Rattle.wire.specs.Packet.{cbw_of}
 use Rattle.wire.specs.declared.packet.Cbw.{Cbw}
-use Rattle.wire.specs.declared.packet.Cbw.TheVariants as cbw
 use Rattle.storage_laws.specs.Bounds.{either}
 use Rattle.engine.specs.World.{Given, World, at_e}
 use Rattle.engine.specs.Api.{fits, writes}
@@ -47,10 +46,10 @@ acted_all g s (a ∷ more) = acted_all g (acted g s a) more
 
 -- ---- a packet is a list of the engine's calls
 
-abbrev cbw_calls : List ℕ → Cbw → List Call
-cbw_calls sent cbw.Bad = []
-cbw_calls sent (cbw.Command tag len c) =
-    cond (eqb c 1) (cond (eqb len 0) (write [] ∷ []) []) (cond (eqb c 2) (read (take (min len 4112) sent) ∷ []) [])
+abbrev cbw_calls : List ℕ → Option Cbw → List Call
+cbw_calls sent None = []
+cbw_calls sent (Some c) =
+    cond (eqb c.command 1) (cond (eqb c.length 0) (write [] ∷ []) []) (cond (eqb c.command 2) (read (take (min c.length 4112) sent) ∷ []) [])
 
 abbrev mode_calls : Port → List ℕ → List ℕ → Mode → List Call
 mode_calls p sent bytes Command = cond (leb (length bytes) 31) (cbw_calls sent (cbw_of bytes)) (reset ∷ [])
@@ -71,12 +70,13 @@ module _ (g : Given) (w : World) (sent : List ℕ) where
   or_made true x y k m h i = h
   or_made false x y k m h i = i
 
-  cbw_made : (c : Cbw) → Made (cbw_by g w sent c) (cbw_calls sent c)
+  cbw_made : (c : Option Cbw) → Made (cbw_by g w sent c) (cbw_calls sent c)
   unfolding after_all refuses write_stage read_stage ends
-  cbw_made cbw.Bad = refl
-  cbw_made (cbw.Command tag len c) =
-      or_made (eqb c 1) (write_stage g tag len w sent) _ (cond (eqb len 0) (write [] ∷ []) []) _ (or_made (eqb len 0) _ _ (write [] ∷ []) [] refl refl)
-      (or_made (eqb c 2) (read_stage g tag len w sent) _ (read (take (min len 4112) sent) ∷ []) [] refl refl)
+  cbw_made None = refl
+  cbw_made (Some c) =
+      or_made (eqb c.command 1) (write_stage g c.tag c.length w sent) _ (cond (eqb c.length 0) (write [] ∷ []) []) _
+      (or_made (eqb c.length 0) _ _ (write [] ∷ []) [] refl refl)
+      (or_made (eqb c.command 2) (read_stage g c.tag c.length w sent) _ (read (take (min c.length 4112) sent) ∷ []) [] refl refl)
 
   fails_made : Made (fails w sent) (reset ∷ [])
   unfolding after_all fails
@@ -104,11 +104,12 @@ module _ (g : Given) (w : World) (sent : List ℕ) where
   abbrev Told : Step → Type 0
   Told t = t.number ≡ 0
 
-  cbw_told : (c : Cbw) → Told (cbw_by g w sent c)
+  cbw_told : (c : Option Cbw) → Told (cbw_by g w sent c)
   unfolding refuses write_stage read_stage ends
-  cbw_told cbw.Bad = refl
-  cbw_told (cbw.Command tag len c) =
-      either Told (eqb c 1) (write_stage g tag len w sent) _ (either Told (eqb len 0) _ _ refl refl) (either Told (eqb c 2) (read_stage g tag len w sent) _ refl refl)
+  cbw_told None = refl
+  cbw_told (Some c) =
+      either Told (eqb c.command 1) (write_stage g c.tag c.length w sent) _ (either Told (eqb c.length 0) _ _ refl refl)
+      (either Told (eqb c.command 2) (read_stage g c.tag c.length w sent) _ refl refl)
 
   moved_told : (p : Port) (n : ℕ) (bytes : List ℕ) → Told (taken_by p n sent (writes g w bytes))
   unfolding ends

@@ -4,18 +4,16 @@
 -- every call from an opening on (`run_headed`), so a frame is never executed with a header that says something else.
 use Rattle.std.specs.Prelude.{◌≡◌, Bool, true, false, ◌&&◌, cond, ◌⊎◌, List, [], ◌∷◌, ℕ, suc, ◌+◌, ◌≤◌, ◌<◌, ◌%◌, ◌^◌, leb, ltb, eqb, take, drop, set}
 use Rattle.std.proofs.Math.Path.{refl, ap}
-use Rattle.std.proofs.Common.{sym, subst, ◌∙◌, inl, inr, arith, eqb-true, leb-false, le-leb, length-take, take-append-drop, length-take-le, take-take}
+use Rattle.std.proofs.Common.{Option, None, Some, sym, subst, ◌∙◌, inl, inr, arith, eqb-true, leb-false, le-leb, length-take, take-append-drop, length-take-le, take-take}
 use Rattle.std.proofs.lemmas.Bool.{eqb-false}
 use Rattle.std.proofs.Math.ListN.{length, get_or}
 use Rattle.std.proofs.lemmas.List.Edits.{sets}
 use Rattle.std.proofs.Math.Seq.{length-sets}
 use Rattle.std.proofs.lemmas.List.{take-set-le}
 use Rattle.wire.specs.Bytes.{word_at}
-use Rattle.wire.specs.Header.{request_magic, checksum_of, accepted, parsed}
-use Rattle.wire.specs.declared.header.Header.TheVariants as header
+use Rattle.wire.specs.Header.{request_magic, checksum_of, accepted, request_of, parsed}
 use Rattle.storage.specs.Store.{flushing, writing}
 use Rattle.engine.specs.declared.types.Frame.{Frame}
-use Rattle.engine.specs.declared.exec.Order.TheVariants.{Bad, Run}
 use Rattle.engine.specs.declared.frame.Next.{Next}
 use Rattle.engine.specs.declared.frame.Next.TheVariants.{Refused, Send, Total}
 use Rattle.engine.specs.World.{Given, World, world, with_up, at_e, dev_of, Out, out_of}
@@ -57,10 +55,10 @@ pub data HeaderWhy (s : List ℕ) : Type 0 where
 abbrev Asked : List ℕ → Next → Type 0
 Asked s Refused = HeaderWhy s
 Asked s (Send n) = get_or s 6 0 ≡ 0x12
-Asked s (Total t) = (n : ℕ) × (parsed s ≡ header.Request (get_or s 6 0) (get_or s 7 0) n) × (t ≡ 16 + n) × (get_or s 6 0 ≡ 0x12 → ⊥)
+Asked s (Total t) = (n : ℕ) × (parsed s ≡ request_of (get_or s 6 0) (get_or s 7 0) n) × (t ≡ 16 + n) × (get_or s 6 0 ≡ 0x12 → ⊥)
 
 next_asked : (s : List ℕ) → 16 ≤ length s → Asked s (next_of s)
-unfolding next_of parsed accepted
+unfolding parsed accepted
 next_asked s h = go (accepted s) refl
   where
     c : ℕ
@@ -72,7 +70,7 @@ next_asked s h = go (accepted s) refl
     sum : Bool
     sum = eqb (word_at 4 s 12) (checksum_of request_magic c (get_or s 7 0) n)
 
-    ask : parsed s ≡ header.Request c (get_or s 7 0) n → Asked s (next_by (header.Request c (get_or s 7 0) n))
+    ask : parsed s ≡ request_of c (get_or s 7 0) n → Asked s (next_by (request_of c (get_or s 7 0) n))
     ask e =
         picked (Asked s) (eqb c 0x12) (Send (n % 2 ^ 32)) (cond (leb n 8192) (Total (16 + n)) Refused) (λ a. eqb-true c 0x12 a)
         (λ a. picked (Asked s) (leb n 8192) (Total (16 + n)) Refused (λ b. (n, e, refl, eqb-false c 0x12 a))
@@ -86,8 +84,8 @@ next_asked s h = go (accepted s) refl
     short (inl e) = absurd (let k = leb-false 16 (length s) e in omega arith)
     short (inr e) = bad (and_false _ _ e)
 
-    go : (b : Bool) → accepted s ≡ b → Asked s (next_by (cond b (header.Request c (get_or s 7 0) n) header.Bad))
-    go true e = ask (ap (λ (b : Bool). cond b (header.Request c (get_or s 7 0) n) header.Bad) e)
+    go : (b : Bool) → accepted s ≡ b → Asked s (next_by (cond b (request_of c (get_or s 7 0) n) None))
+    go true e = ask (ap (λ (b : Bool). cond b (request_of c (get_or s 7 0) n) None) e)
     go false e = short (and_false _ _ e)
 
 -- ---- the header of a frame
@@ -107,12 +105,11 @@ idle f q h e = record { room = h; header = λ n. absurd (n e) }
 -- so a frame that is whole is executed by what its header says
 pub record Ordered (q : List ℕ) (t : ℕ) : Type 0 where
   pub n : ℕ
-  pub says : parsed q ≡ header.Request (get_or q 6 0) (get_or q 7 0) n
-  pub order : order_of (take t q) ≡ Run (get_or q 6 0) n
+  pub says : parsed q ≡ request_of (get_or q 6 0) (get_or q 7 0) n
+  pub order : order_of (take t q) ≡ Some (get_or q 6 0, n)
   pub other : get_or q 6 0 ≡ 0x12 → ⊥
 
 ordered : (q : List ℕ) (t : ℕ) → length q ≡ 8208 → next_of q ≡ Total t → Ordered q t
-unfolding order_of
 ordered q t h e = go (subst (Asked q) e (next_asked q (omega arith))) (subst Taken e (next_taken q))
   where
     go : Asked q (Total t) → (16 ≤ t) × (t ≤ 8208) → Ordered q t
@@ -124,7 +121,7 @@ ordered q t h e = go (subst (Asked q) e (next_asked q (omega arith))) (subst Tak
           says = a.1;
           order =
               ap (order_by (take t q)) (parsed_take q t (omega arith) (omega arith) ∙ a.1)
-              ∙ ap (λ (b : Bool). cond b (Run (get_or q 6 0) a.0) Bad) l;
+              ∙ ap (λ (b : Bool). cond {A = Option (ℕ × ℕ)} b (Some (get_or q 6 0, a.0)) None) l;
           other = a.3;
         }
 
@@ -152,7 +149,7 @@ pub data Turned (g : Given) (p : List ℕ) (w : World) (o : Out) : Type 0 where
   refuses_stream : get_or (gathered p w) 6 0 ≡ 0x12 → w.e.up.valid ≡ false → (v : World) → o ≡ ends 0x12 fail v → Turned g p w o
   ends_stream : o ≡ finishes g.lent (fed g.lent p w) → Turned g p w o
   ends_empty : (v : World) → v.e.up.burn ≡ 0 → dev_of v ≡ dev_of w → o ≡ finishes g.lent v → Turned g p w o
-  executes : (c s n : ℕ) → parsed (gathered p w) ≡ header.Request c s n → (c ≡ 0x12 → ⊥) → o ≡ answered c (makes g p w c n) → Turned g p w o
+  executes : (c s n : ℕ) → parsed (gathered p w) ≡ request_of c s n → (c ≡ 0x12 → ⊥) → o ≡ answered c (makes g p w c n) → Turned g p w o
 
 module _ (g : Given) (p : List ℕ) (w : World) where
   -- and what it leaves
@@ -220,7 +217,6 @@ module _ (g : Given) (p : List ℕ) (w : World) where
 
   -- the header stays as it is while data are laid behind it
   next_stays : length w.request ≡ 8208 → 16 ≤ w.e.frame.len → next_of (gathered p w) ≡ next_of w.request
-  unfolding next_of
   next_stays h i = ap next_by (parsed_laid w.request w.e.frame.len p (omega arith) i)
 
   gathers_goes : Headed w → Goes (gathers g p w)

@@ -21,16 +21,16 @@ use Rattle.storage.specs.Store.{good, by_good, flushing, reading}
 use Rattle.storage.specs.Scratch.{in_k, into_scratch}
 use Rattle.engine.specs.World.{Given, given, World, world, Out}
 use Rattle.engine.specs.Reply.{sent, status_by, reply_by, replied, ends}
-use Rattle.engine.specs.Command.{is_query, short_by, short_of, long_by, long_of, plain, pair_of, inside, read_of}
-use Rattle.engine.specs.Storing.{crc_query, probed, partition_field, target_of, aims, is_meta, set_meta}
-use Rattle.engine.specs.Shell.{text_of, is_reset, done_words, word_of, with_number, with_id, line_of, window_of}
+use Rattle.engine.specs.Command.{long_by, long_of, plain, read_of}
+use Rattle.engine.specs.Storing.{crc_query, probed, partition_field, target_of, aims, set_meta}
+use Rattle.engine.specs.Shell.{is_reset, done_words, word_of, line_of}
 use Rattle.engine.specs.Running.{run_read, run_line, shell}
-use Rattle.engine.specs.Exec.{group_of, memory, storing, runs, order_of, performs, execs}
+use Rattle.engine.specs.Exec.{memory, storing, runs, performs, execs}
 use Rattle.engine.specs.Stream as stream
 use Rattle.engine.specs.Stream.{burn_by, fed, settled, finishes, streams}
-use Rattle.engine.specs.Frame.{next_of, ripens, heads, fills, gathers}
-use Rattle.engine.specs.Feed.{want_by, turns, then_by, goes, feeds}
-use Rattle.engine.specs.Api.{rooms_ok, frame_ok, said_ok, up_ok, engine_ok, fits, opened_nor, writes, Read, reads, got_numbers}
+use Rattle.engine.specs.Frame.{ripens, heads, fills, gathers}
+use Rattle.engine.specs.Feed.{turns, then_by, goes, feeds}
+use Rattle.engine.specs.Api.{up_ok, engine_ok, fits, opened_nor, writes, Read, reads, got_numbers}
 
 -- ---- the engine of the replay program
 
@@ -144,5 +144,5 @@ pub data Holds : List Line → Type 0 where
 infixr 40 ◌&◌
 -- THE STATEMENT: the definitions give what 01 says, line by line
 pub twelve : Holds table
-unfolding begins any_of utf8_1 utf8_2 utf8_3 utf8_4 utf8_char first_of char_len octets is_utf8 white_space code_point blank_len lead trim_start keep trim_end trim digit_of digits some signed is_hex numeral number_in until tokens_of same bytes_of le word_at ◌⊕◌ shift shifts byte_in crc_from complement crc_update crc32 checksum_of header_of accepted parsed parts_of parts total part_ok all lists_ok table_end end_of opens.opened_nor one_of nor_size scratch_ok held_ok in_bounds parts_fit block_size_of failing able over fetched flushes read_out good by_good flushing reading in_k into_scratch sent status_by reply_by replied ends is_query short_by short_of long_by long_of plain pair_of inside read_of crc_query probed partition_field target_of aims is_meta set_meta text_of is_reset done_words word_of with_number with_id line_of window_of run_read run_line shell group_of memory storing runs order_of performs execs stream.begins burn_by fed settled finishes streams next_of ripens heads fills gathers want_by turns then_by goes feeds rooms_ok frame_ok said_ok up_ok engine_ok fits opened_nor writes reads
+unfolding begins any_of utf8_1 utf8_2 utf8_3 utf8_4 utf8_char first_of char_len octets is_utf8 white_space code_point blank_len lead trim_start keep trim_end trim digit_of digits some signed is_hex numeral number_in until tokens_of same bytes_of le word_at ◌⊕◌ shift shifts byte_in crc_from complement crc_update crc32 checksum_of header_of accepted parsed parts_of parts total part_ok all lists_ok table_end end_of opens.opened_nor one_of nor_size scratch_ok held_ok in_bounds parts_fit block_size_of failing able over fetched flushes read_out good by_good flushing reading in_k into_scratch sent status_by reply_by replied ends long_by long_of plain read_of crc_query probed partition_field target_of aims set_meta is_reset done_words word_of line_of run_read run_line shell memory storing runs performs execs stream.begins fed settled finishes streams ripens heads fills gathers turns then_by goes feeds up_ok engine_ok fits opened_nor writes reads
 twelve = refl & refl & refl & refl & refl & refl & refl & refl & refl & refl & refl & refl & none

@@ -1,7 +1,7 @@
 -- The frames of an update, one by one, on a NOR that makes no error: metadata whose partition is found flush the store and aim the
 -- update (`meta_done`); SEND_FWC_DATA and its payload, cut within the payload or not, write it there, flush, and say OK
 -- (`send_done`, proofs/Update.antt); both may be cut anyhow (`meta_smooth`, `send_smooth`). proofs/Promise.antt puts them together.
-use Rattle.std.specs.Prelude.{◌≡◌, Bool, true, false, ℕ, ◌+◌, ◌-◌, ◌^◌, ◌≤◌, ◌<◌, ltb, take, drop}
+use Rattle.std.specs.Prelude.{◌≡◌, Option, Some, Result, Ok, Bool, true, false, ℕ, ◌+◌, ◌-◌, ◌^◌, ◌≤◌, ◌<◌, ltb, take, drop}
 use Rattle.std.proofs.Math.Path.{refl, sym, ap, subst}
 use Rattle.std.proofs.Common.{◌∙◌, add-zero, le-leb, eq-eqb, ne_eqb, ltb-true, ltb-false, length-append, take-append-drop, take_all, take_at}
 use Rattle.std.proofs.Math.Bool.{cond}
@@ -10,21 +10,19 @@ use native.Mathlib.Omega.{arith}
 use Rattle.std.proofs.Math.ListN.{length, drop_of_length-le}
 use Rattle.std.proofs.lemmas.List.Edits.{sets, sets-eq}
 use Rattle.wire.specs.Crc.{crc32}
-use Rattle.wire.specs.Header.{reply_magic, header_of, parsed}
-use Rattle.wire.specs.declared.header.Header.TheVariants as header
+use Rattle.wire.specs.Header.{reply_magic, header_of, request_of, parsed}
 use Rattle.storage.specs.World.{Dev}
 use Rattle.storage.specs.Store.{good, flushing}
 use Rattle.storage.proofs.Opens.{sound}
 use Rattle.storage.specs.Open.{one_of}
 use Rattle.storage_laws.specs.View.{view}
 use Rattle.engine.specs.declared.types.Said.{Said}
-use Rattle.engine.specs.declared.storing.Target.{Target}
-use Rattle.engine.specs.declared.storing.Target.TheVariants as target
+use Rattle.engine.specs.declared.types.Failure.{Failure}
 use Rattle.engine.specs.declared.frame.Next.TheVariants.{Send}
 use Rattle.engine.specs.World.{Given, World, with_up, emptied, at_e, dev_of, at_dev, Out, out_of}
 use Rattle.engine.specs.Reply.{Answer, ok, fail, ran, status_by, reply_by, replied, ends}
 use Rattle.engine.specs.Storing.{after_flush, target_of, anew, aimed_at, answer_to, aims, is_meta, set_meta}
-use Rattle.engine.specs.Exec.{group_of, storing, runs, begun, answered}
+use Rattle.engine.specs.Exec.{storing, runs, begun, answered}
 use Rattle.engine.specs.Stream.{fed, burnt, settled_by, settled, said_of, finishes, streamed_by, streams, started, begins}
 use Rattle.engine.specs.Frame.{next_by, next_of, headed_by, grown}
 use Rattle.engine.specs.Feed.{turns, cut_of, feeds}
@@ -68,11 +66,11 @@ pub record MetaFrame (g : Given) (B : ℕ) (f : List ℕ) : Type 0 where
   pub is : f ≡ head ++ body
   pub sixteen : length head ≡ 16
   pub status : ℕ
-  pub says : parsed head ≡ header.Request 0x10 status (length body)
+  pub says : parsed head ≡ request_of 0x10 status (length body)
   pub most : length body ≤ 8192
   pub least : 512 ≤ length body
   pub meta : is_meta (drop (length body - 512) body) ≡ true
-  pub found : target_of g.lists (drop (length body - 512) body) ≡ target.At B
+  pub found : target_of g.lists (drop (length body - 512) body) ≡ Ok (Some B)
 
 -- between frames, with metadata whose partition is at B, nothing held, and the flash c
 pub record Ready (B : ℕ) (c : List ℕ) (v : World) : Type 0 where
@@ -107,7 +105,7 @@ module _ (g : Given) (w : World) (z : w.e.up.left ≡ 0) (q : Quiet g w) (r : le
   aiming = at_e (with_up (anew meta true B w.e.up) (at_dev flushed.0 asked).e) (at_dev flushed.0 asked)
 
   runs_meta : runs g 0x10 k.body asked ≡ set_meta g.lent g.lists k.body asked
-  unfolding runs group_of one_of storing
+  unfolding runs one_of storing
   runs_meta = refl
 
   set_done : set_meta g.lent g.lists k.body asked ≡ ran (ok []) aiming
@@ -118,7 +116,7 @@ module _ (g : Given) (w : World) (z : w.e.up.left ≡ 0) (q : Quiet g w) (r : le
       ap (λ (b : Bool). cond b (cond (is_meta meta) after (ran fail asked)) (ran fail asked)) (le-leb 512 (length k.body) k.least)
       ∙ ap (λ (b : Bool). cond b after (ran fail asked)) k.meta
       ∙ ap (after_flush asked (aims g.lists meta)) flushed.1
-      ∙ ap (λ (t : Target). ran (answer_to t) (at_e (with_up (aimed_at meta w.e.up t) v.e) v)) k.found
+      ∙ ap (λ (t : Result (Option ℕ) Failure). ran (answer_to t) (at_e (with_up (aimed_at meta w.e.up t) v.e) v)) k.found
 
   meta_is : feeds g (emptied_at w) f ≡ out_of 0 (replied 0x10 (ok []) aiming)
   unfolding ends status_by
@@ -189,7 +187,7 @@ pub record SendFrame (p f : List ℕ) : Type 0 where
   pub is : f ≡ head ++ p
   pub sixteen : length head ≡ 16
   pub status : ℕ
-  pub says : parsed head ≡ header.Request 0x12 status (length p)
+  pub says : parsed head ≡ request_of 0x12 status (length p)
 
 -- behind it: between frames, the checksum that of the payload, no burn failure, nothing held, and the flash c
 pub record Updated (p c : List ℕ) (v : World) : Type 0 where
@@ -238,7 +236,6 @@ module _ (g : Given) (v : World) (B : ℕ) (c : List ℕ) (a : Ready B c v) (q :
       omega (arith, ((sound d.store (length d.chip) (length g.lent.marks) (length d.buf) q.taken).nor q.kind).chip_high)
 
   send_next : next_of k.head ≡ Send (length p)
-  unfolding next_of
   send_next = ap next_by k.says ∙ ap Send (omega (arith, short_payload))
 
   send_head : feeds g (emptied_at v) k.head ≡ streamed_by g.lent opened

@@ -3,17 +3,15 @@
 -- 01 has. Each row is a test of the payload, of the engine's numbers or of what a storage call told, and never the answer itself.
 -- That every answer has its row is in Answers.antt, that every row gives its answer in Gives.antt; what follows for turns and writes is in
 -- Reasons.antt and for replies in Replies.antt; what a storage call told is traced to the chip in Causes.antt.
-use Rattle.std.specs.Prelude.{◌≡◌, true, false, List, [], ◌∷◌, ◌++◌, ◌⊎◌, ℕ, zero, suc, ◌+◌, ◌-◌, ◌≤◌, ◌<◌, min, length, take, drop}
+use Rattle.std.specs.Prelude.{◌≡◌, true, false, List, [], ◌∷◌, ◌++◌, ◌⊎◌, ℕ, zero, suc, ◌+◌, ◌-◌, ◌≤◌, ◌<◌, min, length, take, drop, Option, None, Some, Ok}
 use Rattle.text.specs.Utf8.{any_of, is_utf8}
 use Rattle.text.specs.Token.{tokens_of, ascii, same}
 use Rattle.text.specs.Number.{number_in}
-use Rattle.text.specs.declared.number.Number.TheVariants as number
 use Rattle.wire.specs.Bytes.{word_at}
 use Rattle.storage.specs.World.{Lent, Dev, Told}
 use Rattle.storage.specs.Store.{flushing, erasing}
 use Rattle.storage.specs.Scratch.{from_scratch, into_scratch}
 use Rattle.storage.specs.Partition.{lookup}
-use Rattle.storage.specs.declared.partition.Found.TheVariants as found
 use Rattle.engine.specs.declared.shell.Line.{Line}
 use Rattle.engine.specs.declared.shell.Line.TheVariants as line
 use Rattle.engine.specs.World.{Given, World, dev_of}
@@ -31,7 +29,7 @@ line_in bytes = take (word_at 4 bytes 0) (drop 4 bytes)
 abbrev pub NoNumber : ℕ → List (List ℕ) → Type 0
 NoNumber zero ts = ⊥
 NoNumber (suc n) [] = Unit {0}
-NoNumber (suc n) (t ∷ ts) = (number_in t ≡ number.Bad) ⊎ NoNumber n ts
+NoNumber (suc n) (t ∷ ts) = (number_in t ≡ None) ⊎ NoNumber n ts
 
 -- the id is missing, or one of the n numbers behind it
 abbrev pub BehindId : ℕ → List (List ℕ) → Type 0
@@ -91,13 +89,13 @@ pub data InWhy (l : Lent) (w : World) (off len addr : ℕ) : Type 0 where
   in_short : ((in_told l w off len addr).count ≡ cut_to w addr len → ⊥) → InWhy l w off len addr
 
 -- why a line that asks for something fails
-abbrev pub RunWhy : Lent → World → Line → Type 0
-RunWhy l w line.Bad = ⊥
-RunWhy l w line.Done = ⊥
-RunWhy l w (line.Erase start size) = Unerased l start size (dev_of w)
-RunWhy l w (line.Write off len addr) = OutWhy l w off len addr
-RunWhy l w (line.Read off len addr) = InWhy l w off len addr
-RunWhy l w (line.Boot addr len) = Off w addr
+abbrev pub RunWhy : Lent → World → Option Line → Type 0
+RunWhy l w None = ⊥
+RunWhy l w (Some line.Done) = ⊥
+RunWhy l w (Some (line.Erase start size)) = Unerased l start size (dev_of w)
+RunWhy l w (Some (line.Write off len addr)) = OutWhy l w off len addr
+RunWhy l w (Some (line.Read off len addr)) = InWhy l w off len addr
+RunWhy l w (Some (line.Boot addr len)) = Off w addr
 
 -- ---- the reasons of every command
 
@@ -132,7 +130,7 @@ pub data Why (g : Given) (c : ℕ) (bytes : List ℕ) (w : World) : Type 0 where
   meta_cut : c ≡ 0x10 → length bytes < 512 → Why g c bytes w
   meta_magic : c ≡ 0x10 → is_meta (meta_in bytes) ≡ false → Why g c bytes w
   meta_flush : c ≡ 0x10 → Unflushed g.lent (dev_of w) → Why g c bytes w
-  meta_unknown : c ≡ 0x10 → (partition_field (meta_in bytes) ≡ [] → ⊥) → ((o : ℕ) → lookup g.lists (partition_field (meta_in bytes)) ≡ found.At o → ⊥)
+  meta_unknown : c ≡ 0x10 → (partition_field (meta_in bytes) ≡ [] → ⊥) → ((o : ℕ) → lookup g.lists (partition_field (meta_in bytes)) ≡ Ok (Some o) → ⊥)
       → Why g c bytes w
   -- GET_FWC_CRC: the flush failed, as in `execute_inner`
   crc_flush : c ≡ 0x13 → Unflushed g.lent (dev_of w) → Why g c bytes w

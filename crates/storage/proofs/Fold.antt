@@ -1,4 +1,5 @@
 -- How a write goes: byte by byte in the definition, a page's piece at a time in the code. Once for every kind of device.
+use Rattle.std.proofs.Common.{Result, Ok, Err, is_ok}
 use mathlib.Core.Path.{◌≡◌, refl, sym, ap, ◌∙◌}
 use mathlib.Core.Bool.{Bool, true, false, cond}
 use mathlib.Core.List.{List, [], ◌∷◌, ◌++◌}
@@ -9,10 +10,12 @@ use native.Mathlib.Omega.{arith}
 use borrow.Author.Tests.{le-leb}
 use lib.ListN.{length, take, drop, set, take-append-drop, length-take, length-drop, drop_of_length-le}
 use lib.Seq.{sets, drop-drop}
+use Rattle.std.proofs.lemmas.Bool.{cond_both}
 use Rattle.wire.specs.Bytes.{laid}
+use Rattle.storage.specs.declared.types.Stopped.{Stopped}
 use Rattle.storage.specs.declared.types.Store.{Store}
 use Rattle.storage.specs.World.{Dev, dev, Out, out}
-use Rattle.storage.specs.Fold.{Run, run, base, seals, step, writes}
+use Rattle.storage.specs.Fold.{Run, run, base, seals, step, writes, reached as reached_to, Laws}
 use Rattle.storage.proofs.Pages.{mod_on, base_on}
 
 pub false_true : {A : Type 0} → false ≡ true → A
@@ -21,14 +24,6 @@ false_true e = absurd (let z : ◌≡◌ {A = ℕ} 0 1 = cc in omega arith)
 picked_at : (b : Bool) (o : Run) (n a : ℕ) (d : Dev) → o.at ≡ n → (cond b o (run false a d)).ok ≡ true → (cond b o (run false a d)).at ≡ n
 picked_at true o n a d q e = q
 picked_at false o n a d q e = false_true e
-
-picked_on : (b : Bool) (o : Run) (a : ℕ) (d : Dev) → a ≤ o.at → a ≤ (cond b o (run false a d)).at
-picked_on true o a d q = q
-picked_on false o a d q = le_refl a
-
-picked_most : (b : Bool) (o : Run) (n a : ℕ) (d : Dev) → o.at ≤ n → a ≤ n → (cond b o (run false a d)).at ≤ n
-picked_most true o n a d q r = q
-picked_most false o n a d q r = r
 
 module _ (p : ℕ) (load seal : ℕ → Dev → Out) where
   -- ---- what has failed stands
@@ -53,12 +48,12 @@ module _ (p : ℕ) (load seal : ℕ → Dev → Out) where
 
   step_on : (x : ℕ) (b : Bool) (a : ℕ) (d : Dev) → a ≤ (step p load seal (run b a d) x).at
   unfolding step seals
-  step_on x true a d = picked_on (load a d).ok _ a (load a d).dev (le-add_right a 1)
+  step_on x true a d = cond_both (load a d).ok _ (run false a (load a d).dev) (λ (r : Run). a ≤ r.at) (λ t. le-add_right a 1) (λ t. le_refl a)
   step_on x false a d = le_refl a
 
   step_most : (x : ℕ) (b : Bool) (a : ℕ) (d : Dev) → (step p load seal (run b a d) x).at ≤ a + 1
   unfolding step seals
-  step_most x true a d = picked_most (load a d).ok _ (a + 1) a (load a d).dev (le_refl (a + 1)) (le-add_right a 1)
+  step_most x true a d = cond_both (load a d).ok _ (run false a (load a d).dev) (λ (r : Run). r.at ≤ a + 1) (λ t. le_refl (a + 1)) (λ t. le-add_right a 1)
   step_most x false a d = le-add_right a 1
 
   come : (xs : List ℕ) (b : Bool) (a : ℕ) (d : Dev) → (writes p load seal xs (run b a d)).ok ≡ true
@@ -174,3 +169,28 @@ module _ (p : ℕ) (load seal : ℕ → Dev → Out) where
 pub laid_sets : (i : ℕ) (l xs : List ℕ) → i + length xs ≤ length l → laid l i xs ≡ sets l i xs
 unfolding laid
 laid_sets i l xs h = rw (le-leb (i + length xs) (length l) h)
+
+-- a failure says itself how far it came
+pub reached_err : {A : Type 0} (m n : ℕ) (r : Result A Stopped) → is_ok r ≡ false → reached_to m r ≡ reached_to n r
+reached_err m n (Ok x) e = false_true (sym e)
+reached_err m n (Err x) e = refl
+
+-- the state that a write needs, after a load whatever is laid in the buffer then, and after a seal
+module _ {p : ℕ} {ready : Dev → Type 0} {load seal : ℕ → Dev → Out} (w : Laws p ready load seal) (a : ℕ) (d : Dev) {o : Out} where
+  pub ready_loaded : {b : List ℕ} → o ≡ load a d → ready d → length b ≡ length d.buf → ready (dev o.dev.store o.dev.chip b)
+  ready_loaded {b = b} q r h = rw q (w.loaded a d b r h)
+
+  pub ready_sealed : o ≡ seal a d → ready d → ready (dev o.dev.store o.dev.chip d.buf)
+  ready_sealed q r = rw q (w.sealed a d r)
+
+-- a piece of a kind that keeps to the laws: brought in, laid over the buffer, and what is done behind it
+module _ (p : ℕ) {ready : Dev → Type 0} (load seal : ℕ → Dev → Out) (w : Laws p ready load seal) (a : ℕ) (d : Dev) (xs : List ℕ) {b : List ℕ} {l f : Out} where
+  pub piece_sealed : l ≡ load a d → l.ok ≡ true → 0 < length xs → a % p + length xs ≤ p → a % p + length xs ≤ length l.dev.buf
+      → b ≡ laid l.dev.buf (a % p) xs → f ≡ seal (a + length xs) (dev l.dev.store l.dev.chip b)
+      → run f.ok (a + length xs) f.dev ≡ writes p load seal xs (run true a d)
+  unfolding seals
+  piece_sealed q t k n m r v =
+      let h : (load a d).ok ≡ true = ap (λ (o : Out). o.ok) (sym q) ∙ t in
+      let z : (e : ℕ) (chip buf : List ℕ) → base p e ≡ base p a → load e (dev l.dev.store chip buf) ≡ out true (dev l.dev.store chip buf) =
+      λ e chip buf g. rw q (w.stays a d h e chip buf g) in
+      rw (v, r, laid_sets (a % p) l.dev.buf xs m) (piece p load seal a d q xs k t n z w.opens)

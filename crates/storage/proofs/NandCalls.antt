@@ -1,22 +1,13 @@
--- Laws of the NAND chip's calls: a page program byte by byte from the front, a call that set a part of the chip, and a block's
--- place.
+-- Laws of what the NAND chip's calls leave: a page program byte by byte from the front, and bytes of 0xFF.
 use mathlib.Core.Path.{◌≡◌, refl, ap, ◌∙◌}
-use mathlib.Core.Bool.{Bool, true, false}
 use mathlib.Core.List.{List, [], ◌∷◌}
-use Prim.Native.Nat.{ℕ, zero, suc, ◌+◌, ◌-◌, ◌<◌, ◌≤◌}
+use Prim.Native.Nat.{ℕ, zero, suc, ◌+◌, ◌<◌, ◌≤◌}
 use native.Mathlib.Nat.{not-suc-le-zero, le_of_suc-le-suc}
 use native.Mathlib.Numerals.{add-one}
 use native.Mathlib.Omega.{arith}
-use borrow.Rule.Slice.PartMut.{put_mid}
 use lib.Bits.{bit_and}
-use lib.Dec.{eqb}
-use lib.ListN.{length, take, drop, set, get_or, replicate, length-replicate, length-take, length-drop}
-use Rattle.text.specs.Token.{same}
-use Rattle.storage.specs.declared.types.Store.{Store}
-use Rattle.storage.specs.World.{Lent, dev, out}
-use Rattle.storage.specs.Chip.{failing, able, called, over}
-use Rattle.storage.specs.Nand.{blanks, kept, asks_good, program_page}
-use Rattle.storage.proofs.Chips.{part_length}
+use lib.ListN.{length, take, drop, set, get_or, length-replicate, length-take, length-drop}
+use Rattle.storage.specs.Nand.{blanks, kept}
 
 -- ---- a page program
 
@@ -61,38 +52,8 @@ length_kept (x ∷ old) (y ∷ new) = ap suc (length_kept old new)
 pub length_page : (a : ℕ) (xs l : List ℕ) → a + length xs ≤ length l → length (kept (take (length xs) (drop a l)) xs) ≡ length xs
 length_page a xs l h = length_kept (take (length xs) (drop a l)) xs ∙ simp (length-take, length-drop) (omega arith)
 
--- ---- the calls, case by case, as the code goes
-
-module _ (l : Lent) (k : ℕ) (s : Store) (c b : List ℕ) {st : Store} (q : st ≡ called s) where
-  pub asked_fails : failing l.faults s.calls ≡ true → out false (dev st c b) ≡ asks_good l k (dev s c b)
-  unfolding asks_good
-  asked_fails e = rw (q, e)
-
-  pub asked : failing l.faults s.calls ≡ false → out (eqb (get_or l.marks k 0) 255) (dev st c b) ≡ asks_good l k (dev s c b)
-  unfolding asks_good
-  asked e = rw (q, e)
-
-module _ (F : List ℕ) (s : Store) (chip : List ℕ) (a : ℕ) (xs b : List ℕ) {st : Store} (q : st ≡ called s) where
-  pub page_fails : able F s chip a (length xs) ≡ false → out false (dev st chip b) ≡ program_page F a xs (dev s chip b)
-  unfolding program_page
-  page_fails e = rw (q, e)
-
-  -- a call that programmed the part `&mut chip[a..e]`
-  pub page_part : (e : ℕ) {ys : List ℕ} {r : Bool} → able F s chip a (length xs) ≡ true → a + length xs ≤ length chip → e ≡ a + length xs
-      → ys ≡ kept (take (e - a) (drop a chip)) xs → r ≡ same (kept (take (e - a) (drop a chip)) xs) xs
-      → out r (dev st (put_mid a (e - a) chip ys) b) ≡ program_page F a xs (dev s chip b)
-  unfolding program_page over
-  page_part e t f p u v =
-      let k : e - a ≡ length xs = omega arith in
-      rw (q, t, u, v, k, length_page a xs chip f)
-
 -- ---- a block of 0xFF
 
 pub length_blanks : (n : ℕ) → length (blanks n) ≡ n
 unfolding blanks
 length_blanks n = length-replicate {A = ℕ} n 255
-
--- a part of n bytes within l, filled
-pub blank_part : (a e n : ℕ) (l : List ℕ) → e ≡ a + n → a + n ≤ length l → replicate (length (take (e - a) (drop a l))) 255 ≡ blanks n
-unfolding blanks
-blank_part a e n l q h = rw (part_length a e n l q h)

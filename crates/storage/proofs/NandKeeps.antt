@@ -3,15 +3,14 @@
 use mathlib.Core.Path.{◌≡◌, refl, ap, ◌∙◌}
 use mathlib.Core.Bool.{Bool, true, false, cond}
 use mathlib.Core.List.{List}
-use Prim.Native.Nat.{ℕ, ◌+◌, ◌*◌, ◌/◌, ◌≤◌, ◌<◌}
+use Prim.Native.Nat.{ℕ, suc, ◌+◌, ◌*◌, ◌/◌, ◌≤◌, ◌<◌}
 use native.Mathlib.Nat.{le_refl}
 use lib.Dec.{ltb}
 use lib.ListN.{length, take, drop, set}
+use Rattle.std.proofs.lemmas.Bool.{cond_both}
 use Rattle.text.specs.Token.{same}
 use Rattle.storage.specs.declared.types.Shape.{Shape}
 use Rattle.storage.specs.declared.types.Store.{Store}
-use Rattle.storage.specs.declared.types.Erased.{Erased}
-use Rattle.storage.specs.declared.types.Erased.TheVariants.{None, Block}
 use Rattle.storage.specs.World.{Lent, Dev, dev, Out, out, and_then}
 use Rattle.storage.specs.Chip.{able, called, over}
 use Rattle.storage.specs.Fold.{Run, run, base, writes}
@@ -22,6 +21,7 @@ use Rattle.storage.proofs.Over.{length_over}
 use Rattle.storage.proofs.Programs.{Call, programs_call}
 use Rattle.storage.proofs.Along.{writes_along}
 use Rattle.storage.proofs.NandCalls.{length_page}
+use Rattle.std.specs.Prelude.{Option, None, Some}
 
 -- ---- the chip's calls
 
@@ -50,28 +50,27 @@ page_call F a xs d = go (able F d.store d.chip a (length xs)) refl
 -- ---- the steps
 
 module _ (P : Dev → Type 0) where
-  either : (b : Bool) (o u : Out) → P o.dev → P u.dev → P (cond b o u).dev
-  either true o u h k = h
-  either false o u h k = k
+  abbrev Of : Out → Type 0
+  Of o = P o.dev
 
   next : (o : Out) (f : Dev → Out) → P o.dev → ((d : Dev) → P d → P (f d).dev) → P (and_then o f).dev
-  next o f h k = either o.ok (f o.dev) o (k o.dev h) h
+  next o f h k = cond_both o.ok (f o.dev) o Of (λ t. k o.dev h) (λ t. h)
 
-  module _ (calls : (d e : Dev) → Call d e → P d → P e) (notes : (e : Erased) (d : Dev) → P d → P (remember e d)) (l : Lent) where
+  module _ (calls : (d e : Dev) → Call d e → P d → P e) (notes : (e : Option ℕ) (d : Dev) → P d → P (remember e d)) (l : Lent) where
     pub checked_keeps : (k : ℕ) (d : Dev) → P d → P (erase_checked l k d).dev
     unfolding erase_checked
     checked_keeps k d h =
-        either (ltb k d.store.shape.blocks) (and_then (asks_good l k d) (erase_block l.faults k)) (out false d)
-        (next (asks_good l k d) (erase_block l.faults k) (calls d (asks_good l k d).dev (asks_call l k d) h)
-        (λ e i. calls e (erase_block l.faults k e).dev (erase_call l.faults k e) i)) h
+        cond_both (ltb k d.store.shape.blocks) (and_then (asks_good l k d) (erase_block l.faults k)) (out false d) Of
+        (λ t. next (asks_good l k d) (erase_block l.faults k) (calls d (asks_good l k d).dev (asks_call l k d) h)
+        (λ e i. calls e (erase_block l.faults k e).dev (erase_call l.faults k e) i)) (λ t. h)
 
     ready_keeps : (k : ℕ) (d : Dev) → P d → P (ready l k d).dev
     unfolding ready
     ready_keeps k d h =
         let e = erase_checked l k d in
         let i = checked_keeps k d h in
-        either (is_erased d.store.erased k) (out true d) (cond e.ok (out true (remember (Block k) e.dev)) (out false (remember None e.dev))) h
-        (either e.ok (out true (remember (Block k) e.dev)) (out false (remember None e.dev)) (notes (Block k) e.dev i) (notes None e.dev i))
+        cond_both (is_erased d.store.erased k) (out true d) (cond e.ok (out true (remember (Some k) e.dev)) (out false (remember None e.dev))) Of (λ t. h)
+        (λ t. cond_both e.ok (out true (remember (Some k) e.dev)) (out false (remember None e.dev)) Of (λ t. notes (Some k) e.dev i) (λ t. notes None e.dev i))
 
     burns_keeps : (d : Dev) → P d → P (burns l d).dev
     unfolding burns
@@ -79,7 +78,7 @@ module _ (P : Dev → Type 0) where
         let xs = take d.store.shape.page d.buf in
         let w = program_page l.faults d.store.at xs d in
         let i = calls d w.dev (page_call l.faults d.store.at xs d) h in
-        either w.ok w (out false (remember None w.dev)) i (notes None w.dev i)
+        cond_both w.ok w (out false (remember None w.dev)) Of (λ t. i) (λ t. notes None w.dev i)
 
     attempt_keeps : (d : Dev) → P d → P (attempt l d).dev
     unfolding attempt
@@ -92,8 +91,8 @@ module _ (P : Dev → Type 0) where
           let a = attempt l d in
           let i = attempt_keeps d h in
           let f : Dev → Out = λ w. out true (dev (freed w.store) w.chip w.buf) in
-          either d.store.held (and_then (or_else a (attempt l)) f) (out true d)
-          (next (or_else a (attempt l)) f (either a.ok a (attempt l a.dev) i (attempt_keeps a.dev i)) frees) h
+          cond_both d.store.held (and_then (or_else a (attempt l)) f) (out true d) Of
+          (λ t. next (or_else a (attempt l)) f (cond_both a.ok a (attempt l a.dev) Of (λ t. i) (λ t. attempt_keeps a.dev i)) frees) (λ t. h)
 
       -- below the address `top`
       module _ (p top : ℕ) (starts : (a : ℕ) (d : Dev) → a < top → P d → P (begins (base p a) d)) where
@@ -101,7 +100,7 @@ module _ (P : Dev → Type 0) where
         unfolding loads
         loads_keeps a d t h =
             let f : Dev → Out = λ e. out true (begins (base p a) e) in
-            either (holds d.store (base p a)) (out true d) (and_then (flushes l d) f) h (next (flushes l d) f (flushes_keeps d h) (λ e i. starts a e t i))
+            cond_both (holds d.store (base p a)) (out true d) (and_then (flushes l d) f) Of (λ z. h) (λ z. next (flushes l d) f (flushes_keeps d h) (λ e i. starts a e t i))
 
         stays_keeps : (a : ℕ) (d : Dev) → P d → P (stays a d).dev
         unfolding stays
@@ -141,6 +140,10 @@ module _ (l : Lent) (d : Dev) where
 
   pub flushes_shape : {o : Out} → o ≡ flushes l d → o.dev.store.shape ≡ d.store.shape
   flushes_shape q = rw q (flushes_keeps As call_as (λ e f h. h) l (λ f h. h) d refl)
+
+  pub loads_shape : (p a : ℕ) → (loads l p a d).dev.store.shape ≡ d.store.shape
+  unfolding begins
+  loads_shape p a = loads_keeps As call_as (λ e f h. h) l (λ f h. h) p (suc a) (λ i f t h. h) a d (le_refl (suc a)) refl
 
   pub writes_shape : (p : ℕ) (xs : List ℕ) (a : ℕ) {o : Run} → o ≡ writes p (loads l p) stays xs (run true a d) → o.dev.store.shape ≡ d.store.shape
   unfolding begins

@@ -3,22 +3,19 @@ use mathlib.Core.Path.{◌≡◌, refl, sym, ap, ◌∙◌}
 use mathlib.Core.Bool.{Bool, true, false, cond}
 use mathlib.Core.List.{List, ◌++◌}
 use Prim.Native.Nat.{ℕ, suc, ◌+◌, ◌-◌, ◌*◌, ◌/◌, ◌%◌, ◌≤◌, ◌<◌, min}
-use native.Mathlib.Nat.{div-add-mod', div-eq-sub-div, mod-eq-sub-mod, div-eq_of_lt, mod-eq_of_lt, zero-div, zero-mod, le-mul_of_pos_right, mod-lt, le_trans}
+use native.Mathlib.Nat.{div-add-mod', add-mul-div_right, add-mul-mod_self_right, mod-le}
 use native.Mathlib.Omega.{arith}
-use borrow.Author.Tests.{leb-true, leb-false, le-leb, lt-leb, eq-eqb, ne_eqb}
-use lib.Dec.{leb}
-use lib.ListN.{length, take, drop, replicate, length-take, length-drop}
+use borrow.Author.Tests.{le-leb, lt-leb, eq-eqb, ne_eqb}
+use lib.ListN.{length, take, drop, replicate}
 use lib.Seq.{length-take-le}
-use Rattle.wire.specs.Bytes.{laid}
-use Rattle.storage.specs.declared.types.Store.{Store}
-use Rattle.storage.specs.declared.types.Erased.TheVariants.{None}
 use Rattle.storage.specs.World.{Lent, Dev, dev, Out, out, and_then, told, seen}
 use Rattle.storage.specs.Chip.{Got, fetched}
-use Rattle.storage.specs.Fold.{Run, run, base, seals, writes}
+use Rattle.storage.specs.Fold.{Run, run, base, writes, Laws}
 use Rattle.storage.specs.Nor.{holding, holds, pages_of, sat_add}
-use Rattle.storage.specs.Nand.{block_size, blanks, noting, erase_checked, flushes, begins, loads, stays, written, erase_n, erase_range, erased, read_out}
-use Rattle.storage.proofs.Fold as fold
-use Rattle.storage.proofs.Fold.{false_true, laid_sets}
+use Rattle.storage.specs.Nand.{Sound, block_size, blanks, erase_checked, flushes, begins, loads, stays, written, erase_n, erase_range, read_out}
+use Rattle.storage.proofs.Fold.{false_true}
+use Rattle.storage.proofs.NandSteps.{page_fits}
+use Rattle.storage.proofs.NandKeeps.{sound_as, sound_with, loads_shape}
 
 -- ---- a page brought in
 
@@ -33,14 +30,10 @@ load_held l p a d h = rw h
 
 module _ (l : Lent) (p a : ℕ) (d : Dev) where
   module _ (start : ℕ) {f : Out} (e : start ≡ base p a) (h : holds d.store start ≡ false) (q : f ≡ flushes l d) where
-    pub load_unflushed : f.ok ≡ false → f ≡ loads l p a d
-    unfolding loads
-    load_unflushed t = rw (← e, ← q, h, t)
-
-    pub load_done : (n : ℕ) {xs : List ℕ} → f.ok ≡ true → n ≡ f.dev.store.shape.page → xs ≡ blanks n
-        → out true (dev (holding start f.dev.store) f.dev.chip (xs ++ drop n f.dev.buf)) ≡ loads l p a d
+    pub load_done : {xs : List ℕ} → f.ok ≡ true → xs ≡ blanks f.dev.store.shape.page
+        → out true (dev (holding start f.dev.store) f.dev.chip (xs ++ drop f.dev.store.shape.page f.dev.buf)) ≡ loads l p a d
     unfolding loads begins
-    load_done n t i r = rw (← e, ← q, h, t, r, i)
+    load_done t r = rw (← e, ← q, h, t, r)
 
   -- what is brought in is held
   pub loaded : (loads l p a d).ok ≡ true → holds (loads l p a d).dev.store (base p a) ≡ true
@@ -59,91 +52,58 @@ module _ (l : Lent) (p a : ℕ) (d : Dev) where
       go true h e = h
       go false h e = late (flushes l d).ok (flushes l d) refl e
 
-  -- ---- a piece within one page
-
-  module _ {o : Out} (q : o ≡ loads l p a d) (xs : List ℕ) (k : 0 < length xs) where
-    pub piece_unloaded : o.ok ≡ false → run false a o.dev ≡ writes p (loads l p) stays xs (run true a d)
-    piece_unloaded t = fold.piece_unloaded p (loads l p) stays a d q xs k t
-
-    pub piece_laid : {buf : List ℕ} → o.ok ≡ true → a % p + length xs ≤ p → p ≤ length o.dev.buf → buf ≡ laid o.dev.buf (a % p) xs
-        → run true (a + length xs) (dev o.dev.store o.dev.chip buf) ≡ writes p (loads l p) stays xs (run true a d)
-    unfolding seals stays
-    piece_laid t n m r =
-        let h : holds o.dev.store (base p a) ≡ true = rw q (loaded (ap (λ (w : Out). w.ok) (sym q) ∙ t)) in
-        ap (λ (b : List ℕ). run true (a + length xs) (dev o.dev.store o.dev.chip b)) (r ∙ laid_sets (a % p) o.dev.buf xs (le_trans n m))
-        ∙ fold.piece p (loads l p) stays a d q xs k t n
-        (λ e chip buf i. sym (load_held l p e (dev o.dev.store chip buf) (rw i h))) (λ e f z. refl)
-
 -- ---- a write
 
--- the piece of n bytes from k on that lies in the page of an address
-module _ (p a k n : ℕ) (bs : List ℕ) (h : 0 < p) (q : n ≡ min (p - a % p) (length bs - k)) where
-  pub piece_length : length (take (k + n - k) (drop k bs)) ≡ n
-  piece_length = simp (length-take, length-drop) (omega arith)
-
-  pub piece_some : k < length bs → 0 < length (take (k + n - k) (drop k bs))
-  piece_some i = rw piece_length (omega (arith, mod-lt a h))
-
-  pub piece_within : a % p + length (take (k + n - k) (drop k bs)) ≤ p
-  piece_within = rw piece_length (omega (arith, mod-lt a h))
-
-  pub piece_ends : k ≤ length bs → k + n ≤ length bs
-  piece_ends i = omega arith
+-- a write's bytes are set one after the other in pages
+pub laws : (l : Lent) (p : ℕ) → 0 < p → Laws p (λ d. (Sound l.marks d.store.shape d.buf) × (p ≡ d.store.shape.page)) (loads l p) stays
+unfolding stays
+laws l p h =
+    record {
+      some = h;
+      room = λ d r. rw r.1 (page_fits r.0);
+      loaded = λ a d b r e. let k = loads_shape l d p a in (sound_as k (sound_with e r.0), rw k r.1);
+      sealed = λ a d r. r;
+      stays = λ a d t e chip buf q. sym (load_held l p e (dev (loads l p a d).dev.store chip buf) (rw q (loaded l p a d t)));
+      opens = λ a d n. refl;
+    }
 
 module _ (l : Lent) (off : ℕ) (xs : List ℕ) (d : Dev) where
-  pub written_past : d.store.shape.capacity < off + length xs → told 0 0 d ≡ written l off xs d
-  unfolding written
-  written_past k = rw (lt-leb (off + length xs) d.store.shape.capacity k)
-
   pub written_told : {o : Run} → off + length xs ≤ d.store.shape.capacity
       → o ≡ writes d.store.shape.page (loads l d.store.shape.page) stays xs (run true off d) → told 0 (o.at - off) o.dev ≡ written l off xs d
   unfolding written
   written_told k p = rw (← p, le-leb (off + length xs) d.store.shape.capacity k)
 
--- ---- an erase: blocks from a place up to an end
+-- ---- an erase: the blocks from one on, up to the end of the last one
 
--- a place below the end: one block, and those from the next place on
-pages_next : (b at end : ℕ) → 0 < b → at < end → pages_of b (end - at) ≡ suc (pages_of b (end - (at + b)))
-pages_next b at end h k = go (leb b (end - at)) refl
-  where
-    m : end - (at + b) ≡ end - at - b
-    m = omega arith
-
-    go : (t : Bool) → leb b (end - at) ≡ t → pages_of b (end - at) ≡ suc (pages_of b (end - (at + b)))
-    go true e =
-        let i : b ≤ end - at = leb-true b (end - at) e in
-        let x : (end - at) / b ≡ (end - at - b) / b + 1 = div-eq-sub-div h i in
-        let y : (end - at) % b ≡ (end - at - b) % b = mod-eq-sub-mod i in
-        rw (m, x, y) (omega arith)
-    go false e =
-        let i : end - at < b = leb-false b (end - at) e in
-        let z : end - (at + b) ≡ 0 = omega arith in
-        rw (z, div-eq_of_lt i, mod-eq_of_lt i, div-eq_of_lt h, mod-eq_of_lt h) (omega arith)
-
-module _ (l : Lent) (k b at end : ℕ) (d : Dev) where
-  pub erase_none : end ≤ at → out true d ≡ erase_n l (pages_of b (end - at)) k d
+module _ (l : Lent) (k end : ℕ) (d : Dev) where
+  pub erase_none : end ≤ k → out true d ≡ erase_n l (end - k) k d
   unfolding erase_n
-  erase_none h = let e : end - at ≡ 0 = omega arith in rw (e, zero-div b, zero-mod b)
+  erase_none h = let e : end - k ≡ 0 = omega arith in rw e
 
-  module _ {e : Out} (z : 0 < b) (h : at < end) (p : e ≡ erase_checked l k d) where
+  module _ {e : Out} (h : k < end) (p : e ≡ erase_checked l k d) where
     -- a turn of the loop
-    erase_one : erase_n l (pages_of b (end - at)) k d ≡ and_then e (erase_n l (pages_of b (end - (at + b))) (k + 1))
+    erase_one : erase_n l (end - k) k d ≡ and_then e (erase_n l (end - (k + 1)) (k + 1))
     unfolding erase_n
-    erase_one = rw (pages_next b at end z h, ← p)
+    erase_one = let q : end - k ≡ suc (end - (k + 1)) = omega arith in rw (q, ← p)
 
-    pub erase_failed : e.ok ≡ false → e ≡ erase_n l (pages_of b (end - at)) k d
+    pub erase_failed : e.ok ≡ false → e ≡ erase_n l (end - k) k d
     erase_failed t = rw (erase_one, t)
 
-    pub erase_went : e.ok ≡ true → erase_n l (pages_of b (end - (at + b))) (k + 1) e.dev ≡ erase_n l (pages_of b (end - at)) k d
+    pub erase_went : e.ok ≡ true → erase_n l (end - (k + 1)) (k + 1) e.dev ≡ erase_n l (end - k) k d
     erase_went t = rw (erase_one, t)
 
 -- where the page of an address starts, by its number
 pub start_is : (p a : ℕ) → a / p * p ≡ base p a
 start_is p a = omega (arith, div-add-mod' a p)
 
--- a block's number is no larger than its place
-pub number_most : (k b : ℕ) → 0 < b → k ≤ k * b
-number_most k b h = le-mul_of_pos_right k h
+-- the blocks that a range touches, by the number of its first one and of the one behind its last
+pages_from : (b start end : ℕ) → 0 < b → start ≤ end → pages_of b (end - base b start) ≡ pages_of b end - start / b
+pages_from b start end h k =
+    let m = end - base b start in
+    let q : end ≡ m + start / b * b = rw (start_is b start) (omega (arith, mod-le start b)) in
+    let x : end / b ≡ m / b + start / b = ap (λ (n : ℕ). n / b) q ∙ add-mul-div_right m (start / b) h in
+    let y : end % b ≡ m % b = ap (λ (n : ℕ). n % b) q ∙ add-mul-mod_self_right m (start / b) b in
+    rw (x, y) (omega arith)
 
 module _ (l : Lent) (start size : ℕ) (d : Dev) where
   module _ (end : ℕ) (q : end ≡ sat_add start size) where
@@ -151,19 +111,10 @@ module _ (l : Lent) (start size : ℕ) (d : Dev) where
     unfolding erase_range
     range_past k = rw (← q, lt-leb end d.store.shape.capacity k)
 
-    pub range_done : (k first : ℕ) {o : Out} → end ≤ d.store.shape.capacity → k ≡ start / block_size d.store → first ≡ base (block_size d.store) start
-        → o ≡ erase_n l (pages_of (block_size d.store) (end - first)) k d → o ≡ erase_range l start size d
+    pub range_done : {o : Out} → end ≤ d.store.shape.capacity → 0 < block_size d.store → start ≤ end
+        → o ≡ erase_n l (pages_of (block_size d.store) end - start / block_size d.store) (start / block_size d.store) d → o ≡ erase_range l start size d
     unfolding erase_range
-    range_done k first i u v r = rw (← q, le-leb end d.store.shape.capacity i, ← u, ← v, ← r)
-
-  module _ {f : Out} (p : f ≡ flushes l d) where
-    pub erased_unflushed : f.ok ≡ false → f ≡ erased l start size d
-    unfolding erased
-    erased_unflushed t = rw (← p, t)
-
-    pub erased_done : {s : Store} {o : Out} → f.ok ≡ true → s ≡ noting None f.dev.store → o ≡ erase_range l start size (dev s f.dev.chip f.dev.buf) → o ≡ erased l start size d
-    unfolding erased
-    erased_done t q r = rw (← p, t, ← q, ← r)
+    range_done i u v r = rw (← q, le-leb end d.store.shape.capacity i, pages_from (block_size d.store) start end u v, ← r)
 
 -- ---- a read
 

@@ -5,14 +5,14 @@ use mathlib.Core.List.{List}
 use Prim.Native.Nat.{ℕ, ◌+◌, ◌*◌, ◌/◌, ◌^◌, ◌≤◌, ◌<◌}
 use native.Mathlib.Nat.{mul-le-mul, le_trans}
 use native.Mathlib.Omega.{arith}
-use borrow.Author.Tests.{lt-ltb, le-ltb}
+use borrow.Author.Tests.{lt-ltb}
 use lib.ListN.{length, take}
 use Rattle.storage.specs.declared.types.Shape.{Shape}
 use Rattle.storage.specs.declared.types.Store.{Store}
-use Rattle.storage.specs.declared.types.Erased.TheVariants.{None, Block}
 use Rattle.storage.specs.World.{Lent, Dev, dev, Out, out}
 use Rattle.storage.specs.Nor.{freed}
-use Rattle.storage.specs.Nand.{Shaped, Sound, block_size, erase_block, program_page, asks_good, noting, is_erased, erase_checked, ready, burns, attempt, or_else, flushes, flushed}
+use Rattle.storage.specs.Nand.{Shaped, Sound, block_size, erase_block, program_page, asks_good, noting, is_erased, erase_checked, ready, burns, attempt, or_else, flushes}
+use Rattle.std.specs.Prelude.{Some}
 
 -- ---- the block's place fits
 
@@ -38,19 +38,11 @@ page_fits s = le_trans s.shaped.page_most s.room
 -- ---- a checked erase
 
 module _ (l : Lent) (k : ℕ) (d : Dev) where
-  pub checked_beyond : d.store.shape.blocks ≤ k → out false d ≡ erase_checked l k d
-  unfolding erase_checked
-  checked_beyond h = rw (le-ltb k d.store.shape.blocks h)
-
   pub asks_shape : {a : Out} → a ≡ asks_good l k d → a.dev.store.shape ≡ d.store.shape
   unfolding asks_good
   asks_shape p = ap (λ (o : Out). o.dev.store.shape) p
 
   module _ {a : Out} (h : k < d.store.shape.blocks) (p : a ≡ asks_good l k d) where
-    pub checked_bad : a.ok ≡ false → a ≡ erase_checked l k d
-    unfolding erase_checked
-    checked_bad t = rw (← p, lt-ltb k d.store.shape.blocks h, t)
-
     pub checked_done : {e : Out} → a.ok ≡ true → e ≡ erase_block l.faults k a.dev → e ≡ erase_checked l k d
     unfolding erase_checked
     checked_done t q = rw (← p, lt-ltb k d.store.shape.blocks h, t, ← q)
@@ -62,15 +54,11 @@ module _ (l : Lent) (k : ℕ) (d : Dev) where
   ready_known h = rw h
 
   module _ {e : Out} (h : is_erased d.store.erased k ≡ false) (p : e ≡ erase_checked l k d) where
-    pub ready_not : {s : Store} → e.ok ≡ false → s ≡ noting None e.dev.store → out false (dev s e.dev.chip e.dev.buf) ≡ ready l k d
-    unfolding ready
-    ready_not t q = rw (← p, h, t, q)
-
-    pub ready_now : {s : Store} → e.ok ≡ true → s ≡ noting (Block k) e.dev.store → out true (dev s e.dev.chip e.dev.buf) ≡ ready l k d
+    pub ready_now : {s : Store} → e.ok ≡ true → s ≡ noting (Some k) e.dev.store → out true (dev s e.dev.chip e.dev.buf) ≡ ready l k d
     unfolding ready
     ready_now t q = rw (← p, h, t, q)
 
--- ---- a page burnt, a try, a second one
+-- ---- a page burnt, a try
 
 module _ (l : Lent) (d : Dev) where
   module _ {w : Out} (p : w ≡ program_page l.faults d.store.at (take d.store.shape.page d.buf) d) where
@@ -78,15 +66,7 @@ module _ (l : Lent) (d : Dev) where
     unfolding burns
     burns_done t = rw (← p, t)
 
-    pub burns_not : {s : Store} → w.ok ≡ false → s ≡ noting None w.dev.store → out false (dev s w.dev.chip w.dev.buf) ≡ burns l d
-    unfolding burns
-    burns_not t q = rw (← p, t, q)
-
   module _ (k : ℕ) {r : Out} (q : k ≡ d.store.at / block_size d.store) (p : r ≡ ready l k d) where
-    pub attempt_unready : r.ok ≡ false → r ≡ attempt l d
-    unfolding attempt
-    attempt_unready t = rw (← q, ← p, t)
-
     pub attempt_burns : {w : Out} → r.ok ≡ true → w ≡ burns l r.dev → w ≡ attempt l d
     unfolding attempt
     attempt_burns t u = rw (← q, ← p, t, ← u)
@@ -95,29 +75,9 @@ module _ (l : Lent) (d : Dev) where
     pub once : a.ok ≡ true → a ≡ or_else (attempt l d) (attempt l)
     once t = rw (← p, t)
 
-    pub twice : {w : Out} → a.ok ≡ false → w ≡ attempt l a.dev → w ≡ or_else (attempt l d) (attempt l)
-    twice t q = rw (← p, t, ← q)
-
   -- ---- a flush
 
-  pub flush_free : d.store.held ≡ false → out true d ≡ flushes l d
-  unfolding flushes
-  flush_free h = rw h
-
   module _ {w : Out} (h : d.store.held ≡ true) (p : w ≡ or_else (attempt l d) (attempt l)) where
-    pub flush_not : w.ok ≡ false → w ≡ flushes l d
-    unfolding flushes
-    flush_not t = rw (← p, h, t)
-
     pub flush_done : w.ok ≡ true → out true (dev (freed w.dev.store) w.dev.chip w.dev.buf) ≡ flushes l d
     unfolding flushes
     flush_done t = rw (← p, h, t)
-
-  module _ {f : Out} (p : f ≡ flushes l d) where
-    pub flushed_not : f.ok ≡ false → f ≡ flushed l d
-    unfolding flushed
-    flushed_not t = rw (← p, t)
-
-    pub flushed_done : {s : Store} → f.ok ≡ true → s ≡ noting None f.dev.store → out true (dev s f.dev.chip f.dev.buf) ≡ flushed l d
-    unfolding flushed
-    flushed_done t q = rw (← p, t, q)

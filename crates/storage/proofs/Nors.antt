@@ -1,21 +1,19 @@
 -- How the buffering of a NOR goes, case by case, as the code goes: a law for each `return`, and the fold of a write at sectors of
 -- 4,096 bytes.
-use mathlib.Core.Path.{◌≡◌, refl, sym, ap, ◌∙◌}
+use mathlib.Core.Path.{◌≡◌, refl, sym}
 use mathlib.Core.Bool.{Bool, true, false, cond}
 use mathlib.Core.List.{List, ◌++◌}
 use Prim.Native.Nat.{ℕ, suc, ◌+◌, ◌-◌, ◌*◌, ◌%◌, ◌≤◌, ◌<◌, min, zero-le}
 use native.Mathlib.Omega.{arith}
-use borrow.Author.Tests.{le-leb, lt-leb, eq-eqb, ne_eqb}
-use lib.Dec.{leb, eqb}
+use borrow.Author.Tests.{le-leb, eq-eqb, ne_eqb}
+use lib.Dec.{eqb}
 use lib.ListN.{length, take, drop}
-use lib.Seq.{sets}
-use Rattle.wire.specs.Bytes.{laid}
 use Rattle.storage.specs.declared.types.Store.{Store}
-use Rattle.storage.specs.World.{Dev, dev, Out, out, and_then, Told, told, Seen, seen}
+use Rattle.storage.specs.World.{Dev, dev, Out, out, and_then, told, Seen, seen}
 use Rattle.storage.specs.Chip.{Got, fetched}
-use Rattle.storage.specs.Fold.{Run, run, base, seals, writes}
+use Rattle.storage.specs.Fold.{Run, run, base, writes, Laws}
 use Rattle.storage.specs.Nor.{erase_sector, write_bytes, freed, holding, holds, flushes, reads, loads, closes, written, erase_n, pages_of, sat_add, erased, read_out}
-use Rattle.storage.proofs.Fold.{false_true, no_more, piece, laid_sets}
+use Rattle.storage.proofs.Fold.{false_true}
 
 -- ---- a flush
 
@@ -88,7 +86,7 @@ loaded F a d = go (holds d.store (base 4096 a)) refl
     go false h e =
         after (flushes F d).ok (flushes F d).dev S H (λ f t. after (reads F (base 4096 a) f).ok (reads F (base 4096 a) f).dev R H (λ r u. holding_holds (base 4096 a) r.store) t) e
 
--- ---- a piece within one sector
+-- ---- a write in sectors
 
 stays : (F : List ℕ) (s : Store) (b : ℕ) → holds s b ≡ true → (e : ℕ) (chip buf : List ℕ) → base 4096 e ≡ b → loads F e (dev s chip buf) ≡ out true (dev s chip buf)
 stays F s b h e chip buf q = sym (load_held F e (dev s chip buf) (rw q h))
@@ -97,53 +95,25 @@ opens : (F : List ℕ) (a : ℕ) (d : Dev) → (a % 4096 ≡ 0 → ⊥) → clos
 unfolding closes
 opens F a d n = rw (ne_eqb (a % 4096) 0 n)
 
-seals_open : (F : List ℕ) (a : ℕ) (d : Dev) → (a % 4096 ≡ 0 → ⊥) → run true a d ≡ seals 4096 (loads F) (closes F) a d
-unfolding seals
-seals_open F a d n = rw (opens F a d n)
-
-seals_full : (F : List ℕ) (a : ℕ) (d : Dev) {f : Out} → a % 4096 ≡ 0 → f ≡ flushes F d → run f.ok a f.dev ≡ seals 4096 (loads F) (closes F) a d
-unfolding seals closes
-seals_full F a d h p = rw (← p, eq-eqb (a % 4096) 0 h)
-
-module _ (F : List ℕ) (a : ℕ) (d : Dev) (xs : List ℕ) {l : Out} {b : List ℕ} (k : 0 < length xs) (p : l ≡ loads F a d) (t : l.ok ≡ true)
-    (q : b ≡ laid l.dev.buf (a % 4096) xs) (m : a % 4096 + length xs ≤ length l.dev.buf) where
-  sealed : a % 4096 + length xs ≤ 4096 → seals 4096 (loads F) (closes F) (a + length xs) (dev l.dev.store l.dev.chip b) ≡ writes 4096 (loads F) (closes F) xs (run true a d)
-  sealed n =
-      let h : holds l.dev.store (base 4096 a) ≡ true = rw (← p) at (loaded F a d (ap (λ (o : Out). o.ok) (sym p) ∙ t)) in
-      let w : b ≡ sets l.dev.buf (a % 4096) xs = q ∙ laid_sets (a % 4096) l.dev.buf xs m in
-      rw w (piece 4096 (loads F) (closes F) a d p xs k t n (stays F l.dev.store (base 4096 a) h) (opens F))
-
-  pub piece_open : a % 4096 + length xs < 4096 → run true (a + length xs) (dev l.dev.store l.dev.chip b) ≡ writes 4096 (loads F) (closes F) xs (run true a d)
-  piece_open n =
-      let n0 : (a + length xs) % 4096 ≡ 0 → ⊥ = omega arith in
-      seals_open F (a + length xs) (dev l.dev.store l.dev.chip b) n0 ∙ sealed (omega arith)
-
-  pub piece_full : {f : Out} → a % 4096 + length xs ≡ 4096 → f ≡ flushes F (dev l.dev.store l.dev.chip b)
-      → run f.ok (a + length xs) f.dev ≡ writes 4096 (loads F) (closes F) xs (run true a d)
-  piece_full n r = seals_full F (a + length xs) (dev l.dev.store l.dev.chip b) (omega arith) r ∙ sealed (omega arith)
+-- a write's bytes are set one after the other in sectors
+pub laws : (F : List ℕ) → Laws 4096 (λ d. (4096 ≤ length d.buf) × (◌≡◌ {A = ℕ} 4096 4096)) (loads F) (closes F)
+laws F =
+    record {
+      some = omega arith;
+      room = λ d h. h.0;
+      loaded = λ a d b h e. (rw e h.0, refl);
+      sealed = λ a d h. h;
+      stays = λ a d t. stays F (loads F a d).dev.store (base 4096 a) (loaded F a d t);
+      opens = opens F;
+    }
 
 -- ---- a write
 
 module _ (F : List ℕ) (off : ℕ) (xs : List ℕ) (d : Dev) where
-  pub written_past : d.store.shape.capacity < off + length xs → told 0 0 d ≡ written F off xs d
-  unfolding written
-  written_past k = rw (lt-leb (off + length xs) d.store.shape.capacity k)
-
   pub written_told : {o : Run} → off + length xs ≤ d.store.shape.capacity → o ≡ writes 4096 (loads F) (closes F) xs (run true off d)
       → told 0 (o.at - off) o.dev ≡ written F off xs d
   unfolding written
   written_told k p = rw (← p, le-leb (off + length xs) d.store.shape.capacity k)
-
-counted : (b : Bool) (x n : ℕ) (d e : Dev) → x ≤ n → (cond b (told 0 x e) (told 0 0 d)).count ≤ n
-counted true x n d e h = h
-counted false x n d e h = zero-le
-
--- a write counts no more bytes than it is given
-pub written_count : (F : List ℕ) (off : ℕ) (xs : List ℕ) (d : Dev) {t : Told} → t ≡ written F off xs d → t.count ≤ length xs
-unfolding written
-written_count F off xs d q =
-    let h = no_more 4096 (loads F) (closes F) xs (run true off d) in
-    rw q (counted (leb (off + length xs) d.store.shape.capacity) _ (length xs) d _ (omega arith))
 
 -- ---- a read
 
@@ -205,10 +175,6 @@ module _ (F : List ℕ) (start size : ℕ) (d : Dev) {f : Out} (p : f ≡ flushe
   erased_unflushed t = rw (← p, t)
 
   module _ (t : f.ok ≡ true) (end : ℕ) (q : end ≡ sat_add start size) where
-    pub erased_past : f.dev.store.shape.capacity < end → out false f.dev ≡ erased F start size d
-    unfolding erased
-    erased_past k = rw (← p, ← q, t, lt-leb end f.dev.store.shape.capacity k)
-
     pub erased_told : {o : Out} → end ≤ f.dev.store.shape.capacity → o ≡ erase_n F (pages_of 4096 (end - base 4096 start)) (base 4096 start) f.dev → o ≡ erased F start size d
     unfolding erased
     erased_told k r = rw (← p, ← q, t, le-leb end f.dev.store.shape.capacity k, ← r)

@@ -4,32 +4,22 @@
 -- stay after a call that keeps the shape).
 use mathlib.Core.Path.{◌≡◌, refl, sym, ap, ◌∙◌}
 use mathlib.Core.Bool.{Bool, true, false, ◌&&◌}
-use Prim.Native.Nat.{ℕ, ◌+◌, ◌-◌, ◌*◌, ◌%◌, max, ◌≤◌, ◌<◌}
+use Prim.Native.Nat.{ℕ, ◌+◌, ◌*◌, ◌%◌, max, ◌≤◌, ◌<◌}
 use native.Mathlib.Nat.{mul-le-mul, mul-pos}
 use native.Mathlib.Omega.{arith}
-use borrow.Author.Tests.{le-leb, lt-leb, leb-true, leb-false, eq-eqb, eqb-true, lt-ltb, ltb-true}
+use borrow.Author.Tests.{le-leb, leb-true, eq-eqb, eqb-true, lt-ltb, ltb-true}
 use lib.Dec.{leb, eqb}
 use Rattle.storage.specs.declared.types.Kind.{Kind}
 use Rattle.storage.specs.declared.types.Kind.TheVariants.{Nor, Nand}
 use Rattle.storage.specs.declared.types.Store.{Store}
-use Rattle.storage.specs.declared.open.Opened.{Opened}
-use Rattle.storage.specs.declared.open.Opened.TheVariants.{Ready}
+use Rattle.std.specs.Prelude.{Result, Ok}
+use Rattle.std.proofs.lemmas.Bool.{and_parts}
+use Rattle.storage.specs.declared.types.Refusal.{Refusal}
+use Rattle.storage.specs.declared.types.Refusal.TheVariants as refusal
 use Rattle.storage.specs.Partition.{Lists, lists_ok, end_of}
 use Rattle.storage.specs.Open.{page_ok, pages_ok, geometry_ok, nor_size, chip_ok, numbers_ok, scratch_ok, nor_store, nand_store, unless, opened_nor, opened_nand, by_kind, unit_of, held_ok, in_bounds, parts_fit}
 use Rattle.storage.proofs.Partitions.{end_most}
 use Rattle.storage.proofs.Powers.{page_bounds, pages_bounds}
-
-both : (x y : Bool) → x && y ≡ true → (x ≡ true) × (y ≡ true)
-both true y e = (refl, e)
-both false y e = absurd (let z : ◌≡◌ {A = ℕ} 0 1 = cc in omega arith)
-
--- a sum that is tested without being made
-pub sum_tested : (b n m : ℕ) → n ≤ m → leb b (m - n) ≡ leb (b + n) m
-sum_tested b n m h = go (leb b (m - n)) refl
-  where
-    go : (t : Bool) → leb b (m - n) ≡ t → t ≡ leb (b + n) m
-    go true e = sym (le-leb (b + n) m (omega (arith, leb-true b (m - n) e)))
-    go false e = sym (lt-leb (b + n) m (omega (arith, leb-false b (m - n) e)))
 
 -- ---- NAND's numbers
 
@@ -48,9 +38,9 @@ pub record Geometry (page pages blocks : ℕ) : Type 0 where
 pub geometry : (page pages blocks : ℕ) → geometry_ok page pages blocks ≡ true → Geometry page pages blocks
 unfolding geometry_ok
 geometry page pages blocks e =
-    let p = both (page_ok page) _ e in
-    let q = both (pages_ok pages) _ p.1 in
-    let r = both (leb 1 blocks) _ q.1 in
+    let p = and_parts (page_ok page) _ e in
+    let q = and_parts (pages_ok pages) _ p.1 in
+    let r = and_parts (leb 1 blocks) _ q.1 in
     let f = page_bounds page p.0 in
     let g = pages_bounds pages q.0 in
     let h = leb-true blocks 4096 r.1 in
@@ -74,8 +64,8 @@ geometry page pages blocks e =
 pub bounds_nand : (s : Store) → in_bounds s ≡ true → s.shape.kind ≡ Nand → geometry_ok s.shape.page s.shape.pages s.shape.blocks ≡ true
 unfolding in_bounds
 bounds_nand s e k =
-    let p = both (leb s.shape.capacity 2147483648) _ e in
-    let q = both (by_kind s.shape.kind true (geometry_ok s.shape.page s.shape.pages s.shape.blocks)) _ p.1 in
+    let p = and_parts (leb s.shape.capacity 2147483648) _ e in
+    let q = and_parts (by_kind s.shape.kind true (geometry_ok s.shape.page s.shape.pages s.shape.blocks)) _ p.1 in
     ap (λ (x : Kind). by_kind x true (geometry_ok s.shape.page s.shape.pages s.shape.blocks)) (sym k) ∙ q.0
 
 -- what is lent to a NOR, and to a NAND
@@ -100,31 +90,31 @@ pub record Sound (s : Store) (chip marks buffer : ℕ) : Type 0 where
 held_facts : (held : Bool) (at unit capacity : ℕ) → held_ok held at unit capacity ≡ true → held ≡ true → (at % unit ≡ 0) × (at < capacity)
 unfolding held_ok
 held_facts true at unit capacity e h =
-    let p = both (eqb (at % unit) 0) _ e in
+    let p = and_parts (eqb (at % unit) 0) _ e in
     (eqb-true (at % unit) 0 p.0, ltb-true at capacity p.1)
 held_facts false at unit capacity e h = absurd (let z : ◌≡◌ {A = ℕ} 0 1 = cc in omega arith)
 
 sectors : (chip : ℕ) → nor_size chip ≡ true → Sectors chip
 unfolding nor_size
 sectors chip e =
-    let p = both (leb 4096 chip) _ e in
-    let q = both (leb chip 16777216) _ p.1 in
+    let p = and_parts (leb 4096 chip) _ e in
+    let q = and_parts (leb chip 16777216) _ p.1 in
     record { chip_low = leb-true 4096 chip p.0; chip_high = leb-true chip 16777216 q.0; chip_whole = eqb-true (chip % 4096) 0 q.1 }
 
 chip_facts : (page pages blocks chip marks : ℕ) → chip_ok page pages blocks chip marks ≡ true → (chip ≡ page * pages * blocks) × (marks ≡ blocks)
 unfolding chip_ok
 chip_facts page pages blocks chip marks e =
-    let p = both (eqb chip (page * pages * blocks)) _ e in
+    let p = and_parts (eqb chip (page * pages * blocks)) _ e in
     (eqb-true chip (page * pages * blocks) p.0, eqb-true marks blocks p.1)
 
 module _ (s : Store) (chip marks buffer : ℕ) where
   pub sound : in_bounds s && parts_fit s chip marks buffer ≡ true → Sound s chip marks buffer
   unfolding in_bounds parts_fit
   sound e =
-      let p = both (in_bounds s) (parts_fit s chip marks buffer) e in
-      let b = both (leb s.shape.capacity 2147483648) _ p.0 in
-      let c = both (by_kind s.shape.kind true (geometry_ok s.shape.page s.shape.pages s.shape.blocks)) _ b.1 in
-      let f = both (leb 4096 buffer) _ p.1 in
+      let p = and_parts (in_bounds s) (parts_fit s chip marks buffer) e in
+      let b = and_parts (leb s.shape.capacity 2147483648) _ p.0 in
+      let c = and_parts (by_kind s.shape.kind true (geometry_ok s.shape.page s.shape.pages s.shape.blocks)) _ b.1 in
+      let f = and_parts (leb 4096 buffer) _ p.1 in
       record {
         room = leb-true 4096 buffer f.0;
         capacity_most = leb-true s.shape.capacity 2147483648 b.0;
@@ -147,8 +137,8 @@ module _ (s t : Store) (k : t.shape ≡ s.shape) where
   pub bounds_kept : (t.held ≡ true → (t.at % unit_of s ≡ 0) × (t.at < s.shape.capacity)) → in_bounds s ≡ true → in_bounds t ≡ true
   unfolding in_bounds
   bounds_kept f e =
-      let b = both (leb s.shape.capacity 2147483648) _ e in
-      let c = both (by_kind s.shape.kind true (geometry_ok s.shape.page s.shape.pages s.shape.blocks)) _ b.1 in
+      let b = and_parts (leb s.shape.capacity 2147483648) _ e in
+      let c = and_parts (by_kind s.shape.kind true (geometry_ok s.shape.page s.shape.pages s.shape.blocks)) _ b.1 in
       rw (k, b.0, c.0) (held_made t.held t.at (unit_of s) s.shape.capacity f)
 
   pub parts_kept : (chip marks buffer : ℕ) → parts_fit t chip marks buffer ≡ parts_fit s chip marks buffer
@@ -157,11 +147,11 @@ module _ (s t : Store) (k : t.shape ≡ s.shape) where
 
 -- ---- what an opening gives
 
-unless_ready : (t : Bool) (n : ℕ) (o : Opened) (s : Store) → unless t n o ≡ Ready s → (t ≡ true) × (o ≡ Ready s)
+unless_ready : (t : Bool) (n : Refusal) (o : Result Store Refusal) (s : Store) → unless t n o ≡ Ok s → (t ≡ true) × (o ≡ Ok s)
 unless_ready true n o s e = (refl, e)
 unless_ready false n o s e = absurd (let z : ◌≡◌ {A = ℕ} 0 1 = cc in omega arith)
 
-ready_is : (a b : Store) → Ready a ≡ Ready b → b ≡ a
+ready_is : (a b : Store) → ◌≡◌ {A = Result Store Refusal} (Ok a) (Ok b) → b ≡ a
 ready_is a b e = cc
 
 module _ (chip buffer : ℕ) (l : Lists) (base scratch stage device : ℕ) (s : Store) where
@@ -173,13 +163,13 @@ module _ (chip buffer : ℕ) (l : Lists) (base scratch stage device : ℕ) (s : 
     pub scratch_fits : base + scratch ≤ 4294967296
     pub store : s ≡ nor_store chip (end_of l) stage device
 
-  pub opened_nor_lem : opened_nor chip buffer l base scratch stage device ≡ Ready s → OpenNor
+  pub opened_nor_lem : opened_nor chip buffer l base scratch stage device ≡ Ok s → OpenNor
   unfolding opened_nor scratch_ok
   opened_nor_lem e =
-      let a = unless_ready (leb 4096 buffer) 10 _ s e in
-      let b = unless_ready (nor_size chip) 11 _ s a.1 in
-      let c = unless_ready (lists_ok l) 12 _ s b.1 in
-      let d = unless_ready (scratch_ok base scratch) 14 _ s c.1 in
+      let a = unless_ready (leb 4096 buffer) refusal.Buffer _ s e in
+      let b = unless_ready (nor_size chip) refusal.ChipSize _ s a.1 in
+      let c = unless_ready (lists_ok l) refusal.Partitions _ s b.1 in
+      let d = unless_ready (scratch_ok base scratch) refusal.Scratch _ s c.1 in
       record {
         room = leb-true 4096 buffer a.0;
         size = b.0;
@@ -200,7 +190,7 @@ module _ (chip buffer : ℕ) (l : Lists) (base scratch stage device : ℕ) (s : 
   nor_fits_lem marks o = rw (o.store, le-leb 4096 buffer o.room) o.size
 
   -- later calls with the same parts refuse neither the record nor the parts
-  pub opened_nor_sound : (marks : ℕ) → opened_nor chip buffer l base scratch stage device ≡ Ready s → in_bounds s && parts_fit s chip marks buffer ≡ true
+  pub opened_nor_sound : (marks : ℕ) → opened_nor chip buffer l base scratch stage device ≡ Ok s → in_bounds s && parts_fit s chip marks buffer ≡ true
   opened_nor_sound marks e = let o = opened_nor_lem e in rw (nor_bounds o, nor_fits_lem marks o)
 
 module _ (chip page pages blocks marks capacity : ℕ) (l : Lists) (base scratch stage device : ℕ) (s : Store) where
@@ -214,14 +204,14 @@ module _ (chip page pages blocks marks capacity : ℕ) (l : Lists) (base scratch
     pub store : s ≡ nand_store page pages blocks capacity stage device
     pub tested : (geometry_ok page pages blocks ≡ true) × (chip_ok page pages blocks chip marks ≡ true)
 
-  pub opened_nand_lem : opened_nand chip page pages blocks marks capacity l base scratch stage device ≡ Ready s → OpenNand
+  pub opened_nand_lem : opened_nand chip page pages blocks marks capacity l base scratch stage device ≡ Ok s → OpenNand
   unfolding opened_nand numbers_ok scratch_ok
   opened_nand_lem e =
-      let a = unless_ready (lists_ok l) 12 _ s e in
-      let b = unless_ready (numbers_ok page pages blocks chip marks capacity) 13 _ s a.1 in
-      let c = unless_ready (scratch_ok base scratch) 14 _ s b.1 in
-      let g = both (geometry_ok page pages blocks) _ b.0 in
-      let h = both (chip_ok page pages blocks chip marks) _ g.1 in
+      let a = unless_ready (lists_ok l) refusal.Partitions _ s e in
+      let b = unless_ready (numbers_ok page pages blocks chip marks capacity) refusal.Geometry _ s a.1 in
+      let c = unless_ready (scratch_ok base scratch) refusal.Scratch _ s b.1 in
+      let g = and_parts (geometry_ok page pages blocks) _ b.0 in
+      let h = and_parts (chip_ok page pages blocks chip marks) _ g.1 in
       let f = chip_facts page pages blocks chip marks h.0 in
       record {
         table = a.0;
@@ -242,6 +232,6 @@ module _ (chip page pages blocks marks capacity : ℕ) (l : Lists) (base scratch
   unfolding parts_fit
   nand_fits buffer h o = rw (o.store, le-leb 4096 buffer h) o.tested.1
 
-  pub opened_nand_sound : (buffer : ℕ) → 4096 ≤ buffer → opened_nand chip page pages blocks marks capacity l base scratch stage device ≡ Ready s
+  pub opened_nand_sound : (buffer : ℕ) → 4096 ≤ buffer → opened_nand chip page pages blocks marks capacity l base scratch stage device ≡ Ok s
       → in_bounds s && parts_fit s chip marks buffer ≡ true
   opened_nand_sound buffer h e = let o = opened_nand_lem e in rw (nand_bounds o, nand_fits buffer h o)

@@ -1,11 +1,11 @@
 -- Laws of `over`, which puts bytes over a part of a list.
 use mathlib.Core.Path.{◌≡◌, ap, ◌∙◌}
-use mathlib.Core.List.{List, [], ◌∷◌, ◌++◌, append_assoc}
-use Prim.Native.Nat.{ℕ, ◌+◌, ◌≤◌, ◌<◌}
-use native.Mathlib.Nat.{zero-add, suc-add}
+use mathlib.Core.List.{List, [], ◌++◌, append_assoc}
+use Prim.Native.Nat.{ℕ, ◌+◌, ◌-◌, ◌≤◌, ◌<◌}
 use native.Mathlib.Omega.{arith}
 use lib.ListN.{length, take, drop, set, take-append-drop, length-append, length-take, length-drop, length-set}
 use lib.Seq.{length-take-le, take_at, drop_at, drop-drop, take-set-lt, set-append_left}
+use Rattle.std.proofs.lemmas.List.{set-append_right}
 use Rattle.storage.specs.Chip.{over}
 
 pub length_over : (a : ℕ) (xs l : List ℕ) → a + length xs ≤ length l → length (over a xs l) ≡ length l
@@ -51,10 +51,6 @@ over_same a n l h =
     let p : length (take n (drop a l)) ≡ n = length-take-le n (drop a l) (simp length-drop (omega arith)) in
     rw (p, take-append-drop n (drop a l), take-append-drop a l)
 
-set_append_add : (xs ys : List ℕ) (i x : ℕ) → set (xs ++ ys) (length xs + i) x ≡ xs ++ set ys i x
-set_append_add [] ys i x = ap (λ (k : ℕ). set ys k x) (zero-add i)
-set_append_add (z ∷ xs) ys i x = ap (λ (k : ℕ). set (z ∷ (xs ++ ys)) k x) (suc-add (length xs) i) ∙ ap (λ (r : List ℕ). z ∷ r) (set_append_add xs ys i x)
-
 -- a byte set in what lies over
 pub over_set : (a n i x : ℕ) (b l : List ℕ) → i < n → n ≤ length b → a ≤ length l → over a (take n (set b i x)) l ≡ set (over a (take n b) l) (a + i) x
 unfolding over
@@ -62,4 +58,5 @@ over_set a n i x b l h k m =
     let p : length (take a l) ≡ a = length-take-le a l m in
     let w : List ℕ = drop (length (take n b)) (drop a l) in
     let q : i < length (take n b) = simp length-take (omega arith) in
-    rw (take-set-lt n b i x h, length-set (take n b) i x, ← set-append_left (take n b) w i x q, ← set_append_add (take a l) (take n b ++ w) i x, p)
+    let r : a + i - a ≡ i = omega arith in
+    rw (take-set-lt n b i x h, length-set (take n b) i x, ← set-append_left (take n b) w i x q, set-append_right (take a l) (take n b ++ w) a (a + i) x p (omega arith), r)

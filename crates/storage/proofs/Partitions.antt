@@ -1,75 +1,71 @@
--- Laws of partitions: one partition, what the lists say from a place on, and the lookup. Exported for callers: `Fine`, `fine`
--- (what lists have that are not refused), `end_most`, `First`, `find_first`, `find_most`, `find_bound`, `lookup_at`, `lookup_most`,
--- `lookup_wanted`, `lookup_answers`.
+-- Laws of partitions: one partition, the walk over the lists, and the lookup. Exported for callers: `Fine`, `fine` (what lists have that
+-- are not refused), `end_most`, `find_most`, `lookup_at`, `lookup_most`.
 use mathlib.Core.Path.{◌≡◌, refl, sym, ap, ◌∙◌}
 use mathlib.Core.Bool.{Bool, true, false, ◌&&◌, cond}
-use mathlib.Core.List.{List, [], ◌∷◌, ◌++◌}
+use mathlib.Core.List.{List, [], ◌∷◌}
+use mathlib.Core.Logic.{◌⊎◌, inl, inr}
 use Prim.Native.Nat.{ℕ, ◌+◌, ◌-◌, max, ◌≤◌, ◌<◌}
 use native.Mathlib.Nat.{zero-max, max-zero}
-use native.Mathlib.Numerals.{add-one}
 use native.Mathlib.Omega.{arith}
 use borrow.Author.Tests.{le-leb, lt-leb, leb-true, eq-eqb, ne_eqb, eqb-true, eqb-false}
 use lib.Dec.{leb, eqb}
-use lib.ListN.{length, get_or, take, drop, length-drop, drop_of_length-le}
-use lib.Seq.{drop-cons, drop-drop}
+use lib.ListN.{length, take, drop, length-drop}
+use lib.Pointwise.{pointwise}
+use Rattle.std.specs.Prelude.{nat_eq, find as first}
+use Rattle.std.specs.declared.iter.Zip.{Zip}
+use Rattle.std.proofs.Common.{Iter}
+use Rattle.std.proofs.lemmas.Bool.{and_parts}
+use Rattle.std.proofs.lemmas.Fn.{fronts}
+use Rattle.std.proofs.lemmas.Iterator.{zips}
+use Rattle.std.proofs.lemmas.List.{nil_from_length}
+use Rattle.std.proofs.lemmas.Option.{cond_some}
+use Rattle.std.specs.Iterator.Adapters.{zip_first, zip_second}
+use Rattle.std.specs.Slice.Iter.{iter_rest}
+use Rattle.std.specs.Option.{option_map}
 use Rattle.text.specs.Utf8.{is_utf8}
 use Rattle.text.specs.Token.{same}
-use Rattle.text.proofs.Tokens.{same_equal}
-use Rattle.storage.specs.declared.partition.Found.TheVariants.{At, Nothing, Refused}
-use Rattle.storage.specs.declared.partition.Table.{Table}
-use Rattle.storage.specs.declared.partition.Table.TheVariants.{Bad, Ends}
+use Rattle.text.proofs.Tokens.{same_is}
+use Rattle.std.specs.Prelude.{Option, Some, None, Ok, Err}
+use Rattle.storage.specs.declared.types.CallError.TheVariants.{Refused}
 use Rattle.storage.specs.Partition.{Lists, lists, Part, part, parts_of, parts, total, part_ok, all, lists_ok, table_end, end_of, part_end, table_of, find, wanted, lookup}
-
--- ---- tests
-
-both : (x y : Bool) → x && y ≡ true → (x ≡ true) × (y ≡ true)
-both true y e = (refl, e)
-both false y e = absurd (let z : ◌≡◌ {A = ℕ} 0 1 = cc in omega arith)
 
 -- ---- one partition
 
-module _ (name : List ℕ) (o s : ℕ) where
-  pub end_long : 64 < length name → Bad ≡ part_end (part name o s)
-  unfolding part_end part_ok
-  end_long h = rw (lt-leb (length name) 64 h)
-
-  pub end_high : length name ≤ 64 → 2147483648 < o + s → Bad ≡ part_end (part name o s)
-  unfolding part_end part_ok
-  end_high k h = rw (le-leb (length name) 64 k, lt-leb (o + s) 2147483648 h) (go (is_utf8 name))
-    where
-      go : (t : Bool) → Bad ≡ cond (t && false) (Ends (o + s)) Bad
-      go true = refl
-      go false = refl
-
-  pub end_at : (t : Bool) → length name ≤ 64 → o + s ≤ 2147483648 → t ≡ is_utf8 name → cond t (Ends (o + s)) Bad ≡ part_end (part name o s)
-  unfolding part_end part_ok
-  end_at t k h e = rw (le-leb (length name) 64 k, le-leb (o + s) 2147483648 h, ← e) (go t)
-    where
-      go : (u : Bool) → cond u (Ends (o + s)) Bad ≡ cond (u && true) (Ends (o + s)) Bad
-      go true = refl
-      go false = refl
-
-part_bad : (p : Part) → Bad ≡ part_end p → part_ok p ≡ false
+part_bad : (p : Part) → None ≡ part_end p → part_ok p ≡ false
 unfolding part_end
 part_bad p e = go (part_ok p) e
   where
-    go : (t : Bool) → Bad ≡ cond t (Ends (p.offset + p.size)) Bad → t ≡ false
+    go : (t : Bool) → None ≡ cond t (Some (p.offset + p.size)) None → t ≡ false
     go true h = absurd (let z : ◌≡◌ {A = ℕ} 0 1 = cc in omega arith)
     go false h = refl
 
-part_good : (p : Part) (h : ℕ) → Ends h ≡ part_end p → (part_ok p ≡ true) × (h ≡ p.offset + p.size)
+part_good : (p : Part) (h : ℕ) → Some h ≡ part_end p → (part_ok p ≡ true) × (h ≡ p.offset + p.size)
 unfolding part_end
-part_good p h e = go (part_ok p) e
-  where
-    go : (t : Bool) → Ends h ≡ cond t (Ends (p.offset + p.size)) Bad → (t ≡ true) × (h ≡ p.offset + p.size)
-    go true k = (refl, cc)
-    go false k = absurd (let z : ◌≡◌ {A = ℕ} 0 1 = cc in omega arith)
+part_good p h e = let z = cond_some (part_ok p) (p.offset + p.size) h (sym e) in (z.0, sym z.1)
 
--- ---- the lists from a place on
+-- ---- the walk: the largest end so far, with what is left of the lists
 
--- the test of what is left, with the largest end so far
-unfoldable pub goes : ℕ → List ℕ → List ℕ → List ℕ → List ℕ → Table
-goes e os ss ns b = cond (eqb (total ns) (length b) && all (parts_of os ss ns b)) (Ends (max e (table_end (parts_of os ss ns b)))) Bad
+unfoldable pub goes : ℕ → List ℕ → List ℕ → List ℕ → List ℕ → Option ℕ
+goes e os ss ns b = cond (eqb (total ns) (length b) && all (parts_of os ss ns b)) (Some (max e (table_end (parts_of os ss ns b)))) None
+
+module _ (os ss ns b : List ℕ) where
+  pub table_many : 32 < length os → None ≡ table_of (lists os ss ns b)
+  unfolding table_of lists_ok
+  table_many h = rw (lt-leb (length os) 32 h)
+
+  module _ (few : length os ≤ 32) where
+    pub table_sizes : (length ss ≡ length os → ⊥) → None ≡ table_of (lists os ss ns b)
+    unfolding table_of lists_ok
+    table_sizes h = rw (le-leb (length os) 32 few, ne_eqb (length ss) (length os) h)
+
+    module _ (like : length ss ≡ length os) where
+      pub table_lens : (length ns ≡ length os → ⊥) → None ≡ table_of (lists os ss ns b)
+      unfolding table_of lists_ok
+      table_lens h = rw (le-leb (length os) 32 few, eq-eqb (length ss) (length os) like, ne_eqb (length ns) (length os) h)
+
+      pub table_goes : length ns ≡ length os → goes 0 os ss ns b ≡ table_of (lists os ss ns b)
+      unfolding goes table_of lists_ok parts
+      table_goes h = rw (le-leb (length os) 32 few, eq-eqb (length ss) (length os) like, eq-eqb (length ns) (length os) h, zero-max)
 
 shift : (n t m : ℕ) → n ≤ m → eqb (n + t) m ≡ eqb t (m - n)
 shift n t m h = go (eqb t (m - n)) refl
@@ -80,134 +76,114 @@ shift n t m h = go (eqb t (m - n)) refl
 
 -- one partition is tested, and the rest
 sorted : (e n t m : ℕ) (p : Part) (ps : List Part) → n ≤ m
-    → cond (eqb (n + t) m && all (p ∷ ps)) (Ends (max e (table_end (p ∷ ps)))) Bad
-    ≡ cond (part_ok p) (cond (eqb t (m - n) && all ps) (Ends (max (max e (p.offset + p.size)) (table_end ps))) Bad) Bad
+    → cond (eqb (n + t) m && all (p ∷ ps)) (Some (max e (table_end (p ∷ ps)))) None
+    ≡ cond (part_ok p) (cond (eqb t (m - n) && all ps) (Some (max (max (p.offset + p.size) e) (table_end ps))) None) None
 unfolding all table_end
 sorted e n t m p ps h = rw (shift n t m h) (go (eqb t (m - n)) (part_ok p) (all ps))
   where
     x : ℕ
     x = p.offset + p.size
 
-    assoc : max e (max x (table_end ps)) ≡ max (max e x) (table_end ps)
+    assoc : max e (max x (table_end ps)) ≡ max (max x e) (table_end ps)
     assoc = omega arith
 
     go : (u v w : Bool)
-        → cond (u && (v && w)) (Ends (max e (max x (table_end ps)))) Bad
-        ≡ cond v (cond (u && w) (Ends (max (max e x) (table_end ps))) Bad) Bad
-    go true true true = ap Ends assoc
+        → cond (u && (v && w)) (Some (max e (max x (table_end ps)))) None
+        ≡ cond v (cond (u && w) (Some (max (max x e) (table_end ps))) None) None
+    go true true true = ap Some assoc
     go true true false = refl
     go true false w = refl
     go false true w = refl
     go false false w = refl
 
-pub total_at : (ns : List ℕ) (i : ℕ) → i < length ns → total (drop i ns) ≡ get_or ns i 0 + total (drop (i + 1) ns)
-unfolding total
-total_at ns i h = rw (add-one i, drop-cons ns i 0 h, total)
+-- a turn takes one of each list, and its name off the names' bytes
+module _ (e o s n : ℕ) (os ss ns b : List ℕ) {all-o all-s all-n : List ℕ} (ho : all-o ≡ o ∷ os) (hs : all-s ≡ s ∷ ss) (hn : all-n ≡ n ∷ ns) where
+  pub goes_short : length b < n → None ≡ goes e all-o all-s all-n b
+  unfolding goes total
+  goes_short h = rw (hn, ne_eqb (n + total ns) (length b) (λ k. omega arith))
 
-module _ (os ss ns b : List ℕ) (i at : ℕ) (ho : i < length os) (hs : i < length ss) (hn : i < length ns) where
-  parts_at : parts_of (drop i os) (drop i ss) (drop i ns) (drop at b)
-      ≡ part (take (get_or ns i 0) (drop at b)) (get_or os i 0) (get_or ss i 0)
-      ∷ parts_of (drop (i + 1) os) (drop (i + 1) ss) (drop (i + 1) ns) (drop (at + get_or ns i 0) b)
-  unfolding parts_of
-  parts_at = rw (add-one i, drop-cons os i 0 ho, drop-cons ss i 0 hs, drop-cons ns i 0 hn, parts_of, drop-drop (get_or ns i 0) at b)
-
-  cut : at + get_or ns i 0 - at ≡ get_or ns i 0
-  cut = omega arith
-
-  -- the partition with its name as the code cuts it out
   here : Part
-  here = part (take (at + get_or ns i 0 - at) (drop at b)) (get_or os i 0) (get_or ss i 0)
+  here = part (take n b) o s
 
-  here_is : here ≡ part (take (get_or ns i 0) (drop at b)) (get_or os i 0) (get_or ss i 0)
-  unfolding here
-  here_is = rw cut
+  goes_part : n ≤ length b → goes e all-o all-s all-n b ≡ cond (part_ok here) (goes (max (o + s) e) os ss ns (drop n b)) None
+  unfolding goes total parts_of here
+  goes_part h = rw (ho, hs, hn, length-drop n b) (sorted e n (total ns) (length b) (part (take n b) o s) (parts_of os ss ns (drop n b)) h)
 
-  module _ (e : ℕ) (ha : at ≤ length b) where
-    pub goes_short : length b - at < get_or ns i 0 → Bad ≡ goes e (drop i os) (drop i ss) (drop i ns) (drop at b)
-    unfolding goes
-    goes_short h =
-        let z : eqb (total (drop i ns)) (length (drop at b)) ≡ false = ne_eqb (total (drop i ns)) (length (drop at b)) (λ k. omega (arith, total_at ns i hn, length-drop at b)) in
-        rw z
+  module _ {r : Option ℕ} {name : List ℕ} (h : n ≤ length b) (cut : name ≡ take n b) (q : r ≡ part_end (part name o s)) where
+    at_here : r ≡ part_end here
+    unfolding here
+    at_here = q ∙ ap (λ (x : List ℕ). part_end (part x o s)) cut
 
-    goes_part : get_or ns i 0 ≤ length b - at
-        → goes e (drop i os) (drop i ss) (drop i ns) (drop at b)
-        ≡ cond (part_ok here) (goes (max e (get_or os i 0 + get_or ss i 0)) (drop (i + 1) os) (drop (i + 1) ss) (drop (i + 1) ns) (drop (at + get_or ns i 0) b)) Bad
-    unfolding goes
-    goes_part h =
-        let l : length (drop at b) - get_or ns i 0 ≡ length (drop (at + get_or ns i 0) b) = omega (arith, length-drop at b, length-drop (at + get_or ns i 0) b) in
-        rw (parts_at, total_at ns i hn, here_is, ← l)
-        (sorted e (get_or ns i 0) (total (drop (i + 1) ns)) (length (drop at b)) (part (take (get_or ns i 0) (drop at b)) (get_or os i 0) (get_or ss i 0)) (parts_of (drop (i + 1) os) (drop (i + 1) ss) (drop (i + 1) ns) (drop (at + get_or ns i 0) b)) (omega (arith, length-drop at b)))
+    pub goes_bad : r ≡ None → None ≡ goes e all-o all-s all-n b
+    goes_bad z = sym (goes_part h ∙ rw (part_bad here (sym z ∙ at_here)))
 
-    module _ {r : Table} (h : get_or ns i 0 ≤ length b - at) (q : r ≡ part_end (part (take (at + get_or ns i 0 - at) (drop at b)) (get_or os i 0) (get_or ss i 0))) where
-      pub goes_bad : r ≡ Bad → Bad ≡ goes e (drop i os) (drop i ss) (drop i ns) (drop at b)
-      unfolding here
-      goes_bad z = sym (goes_part h ∙ rw (part_bad here (sym z ∙ q)))
+    pub goes_on : (x : ℕ) {rest : List ℕ} → r ≡ Some x → rest ≡ drop n b → goes (max x e) os ss ns rest ≡ goes e all-o all-s all-n b
+    unfolding here
+    goes_on x z w =
+        let g = part_good here x (sym z ∙ at_here) in
+        rw (w, g.1) (sym (goes_part h ∙ rw g.0))
 
-      pub goes_on : (x : ℕ) {m : ℕ} → r ≡ Ends x → m ≡ max e x
-          → goes m (drop (i + 1) os) (drop (i + 1) ss) (drop (i + 1) ns) (drop (at + get_or ns i 0) b) ≡ goes e (drop i os) (drop i ss) (drop i ns) (drop at b)
-      unfolding here
-      goes_on x z w =
-          let g = part_good here x (sym z ∙ q) in
-          rw (w, g.1) (sym (goes_part h ∙ rw g.0))
+-- the three lists side by side, as the code goes over them
+abbrev pub Side : Type 0
+Side = Zip (Zip (Iter ℕ) (Iter ℕ)) (Iter ℕ)
 
-  -- ---- the lookup at a place
+module _ (z : Side) where
+  abbrev pub offsets_left : List ℕ
+  offsets_left = iter_rest (zip_first (zip_first z))
 
-  module _ (w : List ℕ) {t : Bool} (q : t ≡ same (take (at + get_or ns i 0 - at) (drop at b)) w) where
-    find_part : find w (parts_of (drop i os) (drop i ss) (drop i ns) (drop at b))
-        ≡ cond t (At (get_or os i 0)) (find w (parts_of (drop (i + 1) os) (drop (i + 1) ss) (drop (i + 1) ns) (drop (at + get_or ns i 0) b)))
-    unfolding find
-    find_part = rw (parts_at, q, cut)
+  abbrev pub sizes_left : List ℕ
+  sizes_left = iter_rest (zip_second (zip_first z))
 
-    pub find_here : t ≡ true → At (get_or os i 0) ≡ find w (parts_of (drop i os) (drop i ss) (drop i ns) (drop at b))
-    find_here z = sym (find_part ∙ rw z)
+  abbrev pub lens_left : List ℕ
+  lens_left = iter_rest (zip_second z)
 
-    pub find_next : t ≡ false
-        → find w (parts_of (drop (i + 1) os) (drop (i + 1) ss) (drop (i + 1) ns) (drop (at + get_or ns i 0) b)) ≡ find w (parts_of (drop i os) (drop i ss) (drop i ns) (drop at b))
-    find_next z = sym (find_part ∙ rw z)
+-- they are of like length, and with the largest end so far they say what all of them say
+abbrev pub Walks : Lists → ℕ → List ℕ → Side → Type 0
+Walks l e b z =
+    (length (sizes_left z) ≡ length (offsets_left z)) × (length (lens_left z) ≡ length (offsets_left z)) × (goes e (offsets_left z) (sizes_left z) (lens_left z) b ≡ table_of l)
 
--- ---- the end of the lists
+-- where one of them ends, all do
+spent : (z : Side) → ((u : Zip (Iter ℕ) (Iter ℕ)) × zips fronts fronts (zip_first z) None u) ⊎ ((u : Iter ℕ) × fronts (zip_second z) None u)
+    → length (sizes_left z) ≡ length (offsets_left z) → length (lens_left z) ≡ length (offsets_left z) → length (offsets_left z) ≡ 0
+spent z (inl a) h k = by a.1
+  where
+    by : ((u : Iter ℕ) × fronts (zip_first (zip_first z)) None u) ⊎ ((u : Iter ℕ) × fronts (zip_second (zip_first z)) None u) → length (offsets_left z) ≡ 0
+    by (inl x) = x.1.0
+    by (inr x) = sym h ∙ x.1.0
+spent z (inr a) h k = sym k ∙ a.1.0
 
-module _ (os ss ns b : List ℕ) (i at : ℕ) (ho : length os ≤ i) where
-  parts_end : parts_of (drop i os) (drop i ss) (drop i ns) (drop at b) ≡ []
-  unfolding parts_of
-  parts_end = rw (drop_of_length-le os ho)
+pub goes_end : (l : Lists) (e : ℕ) (b : List ℕ) (z : Side) → ((u : Zip (Iter ℕ) (Iter ℕ)) × zips fronts fronts (zip_first z) None u) ⊎ ((u : Iter ℕ) × fronts (zip_second z) None u)
+    → Walks l e b z → cond (eqb 0 (length b)) (Some e) None ≡ table_of l
+unfolding goes total parts_of all table_end
+goes_end l e b z a w =
+    let n = spent z a w.0 w.1 in
+    go (offsets_left z) (sizes_left z) (lens_left z) n (w.1 ∙ n) ∙ w.2
+  where
+    go : (os ss ns : List ℕ) → length os ≡ 0 → length ns ≡ 0 → cond (eqb 0 (length b)) (Some e) None ≡ goes e os ss ns b
+    go os ss ns x v = rw (nil_from_length os x, nil_from_length ns v, max-zero) (by (eqb 0 (length b)))
+      where
+        by : (t : Bool) → cond t (Some e) None ≡ cond (t && true) (Some e) None
+        by true = refl
+        by false = refl
 
-  pub find_end : (w : List ℕ) → Nothing ≡ find w (parts_of (drop i os) (drop i ss) (drop i ns) (drop at b))
-  unfolding find
-  find_end w = rw parts_end
+-- ---- the lookup by std's words
 
-  module _ (e : ℕ) (hn : length ns ≤ i) where
-    pub goes_end : length b ≤ at → Ends e ≡ goes e (drop i os) (drop i ss) (drop i ns) (drop at b)
-    unfolding goes all total table_end
-    goes_end h = rw (parts_end, drop_of_length-le ns hn, drop_of_length-le b h, max-zero)
+abbrev pub is_named : List ℕ → Part → Bool
+is_named w p = pointwise nat_eq p.name w
 
-    pub goes_left : at < length b → Bad ≡ goes e (drop i os) (drop i ss) (drop i ns) (drop at b)
-    unfolding goes total
-    goes_left h =
-        let z : eqb 0 (length (drop at b)) ≡ false = ne_eqb 0 (length (drop at b)) (λ k. omega (arith, length-drop at b)) in
-        rw (drop_of_length-le ns hn, z)
+pub find_is : (w : List ℕ) (ps : List Part) → option_map (λ (p : Part). p.offset) (first (is_named w) ps) ≡ find w ps
+unfolding find
+find_is w [] = refl
+find_is w (p ∷ ps) = rw (same_is p.name w) (go (same p.name w) (find_is w ps))
+  where
+    go : (t : Bool) → option_map (λ (q : Part). q.offset) (first (is_named w) ps) ≡ find w ps
+        → option_map (λ (q : Part). q.offset) (cond t (Some p) (first (is_named w) ps)) ≡ cond t (Some p.offset) (find w ps)
+    go true e = refl
+    go false e = e
 
 -- ---- all of the lists
 
 module _ (os ss ns b : List ℕ) where
-  pub table_many : 32 < length os → Bad ≡ table_of (lists os ss ns b)
-  unfolding table_of lists_ok
-  table_many h = rw (lt-leb (length os) 32 h)
-
-  module _ (h : length os ≤ 32) where
-    pub table_sizes : (length ss ≡ length os → ⊥) → Bad ≡ table_of (lists os ss ns b)
-    unfolding table_of lists_ok
-    table_sizes n = rw (le-leb (length os) 32 h, ne_eqb (length ss) (length os) n)
-
-    module _ (k : length ss ≡ length os) where
-      pub table_lens : (length ns ≡ length os → ⊥) → Bad ≡ table_of (lists os ss ns b)
-      unfolding table_of lists_ok
-      table_lens n = rw (le-leb (length os) 32 h, eq-eqb (length ss) (length os) k, ne_eqb (length ns) (length os) n)
-
-      pub table_goes : length ns ≡ length os → goes 0 os ss ns b ≡ table_of (lists os ss ns b)
-      unfolding table_of lists_ok goes parts
-      table_goes l = rw (le-leb (length os) 32 h, eq-eqb (length ss) (length os) k, eq-eqb (length ns) (length os) l, zero-max)
-
   -- what lists have that are not refused
   pub record Fine : Type 0 where
     pub few : length os ≤ 32
@@ -219,38 +195,11 @@ module _ (os ss ns b : List ℕ) where
   pub fine : lists_ok (lists os ss ns b) ≡ true → Fine
   unfolding lists_ok parts
   fine h =
-      let p = both (leb (length os) 32) _ h in
-      let q = both (eqb (length ss) (length os)) _ p.1 in
-      let r = both (eqb (length ns) (length os)) _ q.1 in
-      let s = both (eqb (total ns) (length b)) _ r.1 in
+      let p = and_parts (leb (length os) 32) _ h in
+      let q = and_parts (eqb (length ss) (length os)) _ p.1 in
+      let r = and_parts (eqb (length ns) (length os)) _ q.1 in
+      let s = and_parts (eqb (total ns) (length b)) _ r.1 in
       record { few = leb-true (length os) 32 p.0; like_sizes = eqb-true (length ss) (length os) q.0; like_lens = eqb-true (length ns) (length os) r.0; like_names = eqb-true (total ns) (length b) s.0; each = s.1 }
-
--- ---- what is read off the code's one answer
-
-module _ (l : Lists) {r : Table} (q : r ≡ table_of l) where
-  pub table_bad : r ≡ Bad → lists_ok l ≡ false
-  unfolding table_of
-  table_bad z = go (lists_ok l) (sym z ∙ q)
-    where
-      go : (t : Bool) → Bad ≡ cond t (Ends (table_end (parts l))) Bad → t ≡ false
-      go true e = absurd (let f : ◌≡◌ {A = ℕ} 0 1 = cc in omega arith)
-      go false e = refl
-
-  pub table_good : {x : ℕ} → r ≡ Ends x → (lists_ok l ≡ true) × (x ≡ table_end (parts l))
-  unfolding table_of
-  table_good {x} z = go (lists_ok l) (sym z ∙ q)
-    where
-      go : (t : Bool) → Ends x ≡ cond t (Ends (table_end (parts l))) Bad → (t ≡ true) × (x ≡ table_end (parts l))
-      go true e = (refl, cc)
-      go false e = absurd (let f : ◌≡◌ {A = ℕ} 0 1 = cc in omega arith)
-
-  pub end_good : {x : ℕ} → r ≡ Ends x → x ≡ end_of l
-  unfolding end_of
-  end_good z = let g = table_good z in g.1 ∙ rw g.0
-
-  pub end_bad : r ≡ Bad → 0 ≡ end_of l
-  unfolding end_of
-  end_bad z = rw (table_bad z)
 
 -- ---- laws for callers
 
@@ -258,15 +207,15 @@ module _ (l : Lists) {r : Table} (q : r ≡ table_of l) where
 part_most : (p : Part) → part_ok p ≡ true → p.offset + p.size ≤ 2147483648
 unfolding part_ok
 part_most p e =
-    let a = both (leb (length p.name) 64) _ e in
-    let b = both (is_utf8 p.name) _ a.1 in
+    let a = and_parts (leb (length p.name) 64) _ e in
+    let b = and_parts (is_utf8 p.name) _ a.1 in
     leb-true (p.offset + p.size) 2147483648 b.1
 
 ends_most : (ps : List Part) → all ps ≡ true → table_end ps ≤ 2147483648
 unfolding all table_end
 ends_most [] e = omega arith
 ends_most (p ∷ ps) e =
-    let b = both (part_ok p) (all ps) e in
+    let b = and_parts (part_ok p) (all ps) e in
     omega (arith, part_most p b.0, ends_most ps b.1)
 
 module _ (l : Lists) where
@@ -286,78 +235,30 @@ module _ (l : Lists) where
       go true e = ends_most (parts l) (all_ok e)
       go false e = omega arith
 
--- a partition that is found is the first of its name
-pub record First (w : List ℕ) (ps : List Part) (o : ℕ) : Type 0 where
-  pub front : List Part
-  pub it : Part
-  pub back : List Part
-  pub split : ps ≡ front ++ it ∷ back
-  pub named : it.name ≡ w
-  pub starts : it.offset ≡ o
-  pub none_before : find w front ≡ Nothing
-
-pub find_first : (w : List ℕ) (ps : List Part) (o : ℕ) → find w ps ≡ At o → First w ps o
-unfolding find
-find_first w [] o e = absurd (let z : ◌≡◌ {A = ℕ} 0 1 = cc in omega arith)
-find_first w (p ∷ ps) o e = go (same p.name w) refl e (find_first w ps o)
-  where
-    go : (t : Bool) → same p.name w ≡ t → cond t (At p.offset) (find w ps) ≡ At o → (find w ps ≡ At o → First w ps o) → First w (p ∷ ps) o
-    go true s h k = record { front = []; it = p; back = ps; split = refl; named = same_equal p.name w s; starts = cc; none_before = refl }
-    go false s h k =
-        let f = k h in
-        record { front = p ∷ f.front; it = f.it; back = f.back; split = ap (λ (x : List Part). p ∷ x) f.split; named = f.named; starts = f.starts; none_before = rw s f.none_before }
-
--- and starts below the largest end
-pub find_most : (w : List ℕ) (ps : List Part) (o : ℕ) → find w ps ≡ At o → o ≤ table_end ps
+-- a partition that is found starts below the largest end
+pub find_most : (w : List ℕ) (ps : List Part) (o : ℕ) → find w ps ≡ Some o → o ≤ table_end ps
 unfolding find table_end
 find_most w [] o e = absurd (let z : ◌≡◌ {A = ℕ} 0 1 = cc in omega arith)
 find_most w (p ∷ ps) o e = go (same p.name w) e (find_most w ps o)
   where
-    go : (t : Bool) → cond t (At p.offset) (find w ps) ≡ At o → (find w ps ≡ At o → o ≤ table_end ps) → o ≤ max (p.offset + p.size) (table_end ps)
+    go : (t : Bool) → cond t (Some p.offset) (find w ps) ≡ Some o → (find w ps ≡ Some o → o ≤ table_end ps) → o ≤ max (p.offset + p.size) (table_end ps)
     go true h k = let z : p.offset ≡ o = cc in omega arith
     go false h k = let z = k h in omega arith
 
-find_never : (w : List ℕ) (ps : List Part) → find w ps ≡ Refused → ⊥
-unfolding find
-find_never w [] r = let z : ◌≡◌ {A = ℕ} 0 1 = cc in omega arith
-find_never w (p ∷ ps) r = go (same p.name w) r (find_never w ps)
-  where
-    go : (t : Bool) → cond t (At p.offset) (find w ps) ≡ Refused → (find w ps ≡ Refused → ⊥) → ⊥
-    go true k f = let z : ◌≡◌ {A = ℕ} 0 1 = cc in omega arith
-    go false k f = f k
-
--- so it starts at 2^31 at most, in lists that are not refused
-pub find_bound : (l : Lists) (w : List ℕ) (o : ℕ) → lists_ok l ≡ true → find w (parts l) ≡ At o → o ≤ 2147483648
-find_bound l w o h e = omega (arith, find_most w (parts l) o e, ends_most (parts l) (all_ok l h))
-
 module _ (l : Lists) where
   -- what is looked up is found in lists that are not refused, by a text that is UTF-8
-  pub lookup_at : (n : List ℕ) (o : ℕ) → lookup l n ≡ At o → (lists_ok l ≡ true) × (is_utf8 n ≡ true) × (find (wanted n) (parts l) ≡ At o)
+  pub lookup_at : (n : List ℕ) (o : ℕ) → lookup l n ≡ Ok (Some o) → (lists_ok l ≡ true) × (is_utf8 n ≡ true) × (find (wanted n) (parts l) ≡ Some o)
   unfolding lookup
   lookup_at n o e = go (lists_ok l) (is_utf8 n) e
     where
-      go : (t u : Bool) → cond t (cond u (find (wanted n) (parts l)) Nothing) Refused ≡ At o → (t ≡ true) × (u ≡ true) × (find (wanted n) (parts l) ≡ At o)
-      go true true h = (refl, refl, h)
+      go : (t u : Bool) → cond t (Ok (cond u (find (wanted n) (parts l)) None)) (Err Refused) ≡ Ok (Some o) → (t ≡ true) × (u ≡ true) × (find (wanted n) (parts l) ≡ Some o)
+      go true true h = (refl, refl, cc)
       go true false h = absurd (let z : ◌≡◌ {A = ℕ} 0 1 = cc in omega arith)
       go false u h = absurd (let z : ◌≡◌ {A = ℕ} 0 1 = cc in omega arith)
 
   -- a target is at most the largest end, and that at most 2^31
-  pub lookup_most : (n : List ℕ) (o : ℕ) → lookup l n ≡ At o → (o ≤ end_of l) × (o ≤ 2147483648)
+  pub lookup_most : (n : List ℕ) (o : ℕ) → lookup l n ≡ Ok (Some o) → (o ≤ end_of l) × (o ≤ 2147483648)
   lookup_most n o e =
       let a = lookup_at n o e in
       let m : o ≤ end_of l = rw (end_is l a.0) (find_most (wanted n) (parts l) o a.2) in
       (m, omega (arith, end_most l))
-
-  -- the text counts only by the name that it asks for
-  pub lookup_wanted : (a b : List ℕ) → is_utf8 a ≡ is_utf8 b → wanted a ≡ wanted b → lookup l a ≡ lookup l b
-  unfolding lookup
-  lookup_wanted a b u w = rw (u, w)
-
-  -- lists that are not refused refuse no text
-  pub lookup_answers : (n : List ℕ) → lists_ok l ≡ true → lookup l n ≡ Refused → ⊥
-  unfolding lookup
-  lookup_answers n h e = go (is_utf8 n) (rw h at e)
-    where
-      go : (t : Bool) → cond t (find (wanted n) (parts l)) Nothing ≡ Refused → ⊥
-      go true k = find_never (wanted n) (parts l) k
-      go false k = let z : ◌≡◌ {A = ℕ} 0 1 = cc in omega arith

@@ -2,7 +2,7 @@
 -- tests of row 13 that count bits are the definition's, and a shift divides by the page size. Exported: `one_bit`, `ones_power`,
 -- `trailing_power`, `page_power`, `pages_power`, `page_bounds`, `pages_bounds`, `shift_page`.
 use mathlib.Core.Path.{◌≡◌, refl, sym, ap, ◌∙◌}
-use mathlib.Core.Bool.{Bool, true, false, not, ◌&&◌, ◌||◌}
+use mathlib.Core.Bool.{Bool, true, false, not, ◌||◌, false≢true}
 use mathlib.Core.List.{List, [], ◌∷◌}
 use Prim.Native.Nat.{ℕ, zero, suc, ◌+◌, ◌*◌, ◌/◌, ◌%◌, ◌^◌, ◌≤◌, ◌<◌}
 use native.Mathlib.Nat.{pow-suc, not-suc-le-zero}
@@ -11,10 +11,8 @@ use borrow.Author.Tests.{le-leb, eqb-true, eqb-false}
 use lib.Count.{ones_in, ones, count_trailing_zeros, ones_step, ones_cat}
 use lib.Dec.{leb, eqb}
 use lib.Pow.{pow_pos, pow_mono}
+use Rattle.std.proofs.lemmas.Bool.{agree_below, agree_below_at, false_from_ne_true}
 use Rattle.storage.specs.Open.{one_of, page_ok, pages_ok, shift_of}
-
-false_true : {A : Type 0} → false ≡ true → A
-false_true e = absurd (let z : ◌≡◌ {A = ℕ} 0 1 = cc in omega arith)
 
 -- ---- one bit
 
@@ -73,7 +71,7 @@ powers a (suc m) = 2 ^ a ∷ powers (suc a) m
 
 one_of_power : (a m n : ℕ) → one_of (powers a m) n ≡ true → (j : ℕ) × (n ≡ 2 ^ j) × (a ≤ j) × (j < a + m)
 unfolding one_of powers
-one_of_power a zero n e = false_true e
+one_of_power a zero n e = absurd (false≢true e)
 one_of_power a (suc m) n e = go (eqb n (2 ^ a)) refl e (one_of_power (suc a) m n)
   where
     go : (t : Bool) → eqb n (2 ^ a) ≡ t → t || one_of (powers (suc a) m) n ≡ true
@@ -82,21 +80,6 @@ one_of_power a (suc m) n e = go (eqb n (2 ^ a)) refl e (one_of_power (suc a) m n
     go false q h f =
         let g = f h in
         (g.0, g.1, omega arith, omega arith)
-
--- a test that holds at each number below n, by computing
-up_to : (ℕ → Bool) → ℕ → Bool
-up_to f zero = true
-up_to f (suc n) = f n && up_to f n
-
-up_to_lem : (f : ℕ → Bool) (n : ℕ) → up_to f n ≡ true → (k : ℕ) → k < n → f k ≡ true
-unfolding up_to
-up_to_lem f zero e k h = absurd (not-suc-le-zero h)
-up_to_lem f (suc n) e k h = go (f n) refl e (eqb k n) refl (λ q. up_to_lem f n q k)
-  where
-    go : (t : Bool) → f n ≡ t → t && up_to f n ≡ true → (s : Bool) → eqb k n ≡ s → (up_to f n ≡ true → k < n → f k ≡ true) → f k ≡ true
-    go true p z true s g = ap f (eqb-true k n s) ∙ p
-    go true p z false s g = g z (omega (arith, eqb-false k n s))
-    go false p z b s g = false_true z
 
 -- ---- row 13's powers
 
@@ -124,17 +107,13 @@ pages_bounds n e =
 
 -- ---- row 13's tests by bits
 
-refuted : (b : Bool) → (b ≡ true → ⊥) → false ≡ b
-refuted true f = absurd (f refl)
-refuted false f = refl
-
 -- b is what a count of one bit says, where one bit gives b and b gives a power of two
 counted : (n : ℕ) (b : Bool) → (ones n ≡ 1 → b ≡ true) → (b ≡ true → (j : ℕ) × (n ≡ 2 ^ j)) → eqb (ones n) 1 ≡ b
 counted n b f g = go (eqb (ones n) 1) b refl f g
   where
     go : (t u : Bool) → eqb (ones n) 1 ≡ t → (ones n ≡ 1 → u ≡ true) → (u ≡ true → (j : ℕ) × (n ≡ 2 ^ j)) → t ≡ u
     go true true q k m = refl
-    go true false q k m = false_true (k (eqb-true (ones n) 1 q))
+    go true false q k m = absurd (false≢true (k (eqb-true (ones n) 1 q)))
     go false true q k m =
         let p = m refl in
         absurd (eqb-false (ones n) 1 q (ap ones p.1 ∙ ones_power p.0))
@@ -143,20 +122,20 @@ counted n b f g = go (eqb (ones n) 1) b refl f g
 tested : ℕ → Bool
 tested k = not (leb 512 (2 ^ k)) || page_ok (2 ^ k)
 
-page_tested : up_to tested 13 ≡ true
-unfolding up_to tested page_ok one_of
+page_tested : agree_below tested (λ k. true) 13 ≡ true
+unfolding tested page_ok one_of
 page_tested = refl
 
-pages_tested : up_to (λ k. pages_ok (2 ^ k)) 9 ≡ true
-unfolding up_to pages_ok one_of
+pages_tested : agree_below (λ k. pages_ok (2 ^ k)) (λ k. true) 9 ≡ true
+unfolding pages_ok one_of
 pages_tested = refl
 
 module _ (n : ℕ) where
   pub page_low : n < 512 → false ≡ page_ok n
-  page_low h = refuted (page_ok n) (λ e. omega (arith, page_bounds n e))
+  page_low h = sym (false_from_ne_true (page_ok n) (λ e. omega (arith, page_bounds n e)))
 
   pub page_high : 4096 < n → false ≡ page_ok n
-  page_high h = refuted (page_ok n) (λ e. omega (arith, page_bounds n e))
+  page_high h = sym (false_from_ne_true (page_ok n) (λ e. omega (arith, page_bounds n e)))
 
   pub page_bits : 512 ≤ n → n ≤ 4096 → eqb (ones n) 1 ≡ page_ok n
   unfolding tested
@@ -164,16 +143,16 @@ module _ (n : ℕ) where
     where
       go : (t : Bool) {u : Bool} → t ≡ true → not t || u ≡ true → u ≡ true
       go true q h = h
-      go false q h = false_true q
+      go false q h = absurd (false≢true q)
 
       one : ones n ≡ 1 → page_ok n ≡ true
       one e =
           let p = one_bit 13 n (omega arith) e in
           let w : 512 ≤ 2 ^ p.0 = omega arith in
-          ap page_ok p.2 ∙ go (leb 512 (2 ^ p.0)) (le-leb 512 (2 ^ p.0) w) (up_to_lem tested 13 page_tested p.0 p.1)
+          ap page_ok p.2 ∙ go (leb 512 (2 ^ p.0)) (le-leb 512 (2 ^ p.0) w) (agree_below_at tested (λ k. true) 13 p.0 page_tested p.1)
 
   pub pages_high : 256 < n → false ≡ pages_ok n
-  pages_high h = refuted (pages_ok n) (λ e. omega (arith, pages_bounds n e))
+  pages_high h = sym (false_from_ne_true (pages_ok n) (λ e. omega (arith, pages_bounds n e)))
 
   pub pages_bits : n ≤ 256 → eqb (ones n) 1 ≡ pages_ok n
   pages_bits hi = counted n (pages_ok n) one (λ e. let p = pages_power n e in (p.0, p.1))
@@ -181,7 +160,7 @@ module _ (n : ℕ) where
       one : ones n ≡ 1 → pages_ok n ≡ true
       one e =
           let p = one_bit 9 n (omega arith) e in
-          ap pages_ok p.2 ∙ up_to_lem (λ k. pages_ok (2 ^ k)) 9 pages_tested p.0 p.1
+          ap pages_ok p.2 ∙ agree_below_at (λ k. pages_ok (2 ^ k)) (λ k. true) 9 p.0 pages_tested p.1
 
   -- the shift of a page size
   pub shift_page : page_ok n ≡ true → (2 ^ shift_of n ≡ n) × (shift_of n < 64)

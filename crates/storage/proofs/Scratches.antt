@@ -5,14 +5,18 @@ use mathlib.Core.List.{List, ◌++◌, append-nil, append_assoc}
 use Prim.Native.Nat.{ℕ, zero, suc, ◌+◌, ◌-◌, ◌≤◌, ◌<◌, min, zero-le}
 use native.Mathlib.Nat.{zero-add, add-zero, le_of_lt}
 use native.Mathlib.Omega.{arith}
-use borrow.Author.Tests.{leb-true, leb-false, eq-eqb, ne_eqb}
+use borrow.Author.Tests.{eq-eqb, ne_eqb}
 use lib.Dec.{leb, eqb}
 use lib.ListN.{length, take, drop, length-take, length-drop, length-append, drop_of_length-le}
-use lib.Seq.{take_all, take-nil, take_at, drop_at, drop-drop, length-take-le}
+use lib.Seq.{take_all, take_at, drop_at, length-take-le}
 use borrow.Rule.Slice.PartMut.{put_mid}
+use Rattle.std.proofs.lemmas.List.{take_min, drop_min}
+use Rattle.std.specs.Prelude.{Result, Ok, Err}
+use Rattle.std.specs.Result.{result_unwrap_or}
+use Rattle.storage.specs.declared.types.CallError.{CallError}
 use Rattle.storage.specs.declared.types.Kind.{Kind}
 use Rattle.storage.specs.declared.types.Kind.TheVariants.{Nor, Nand}
-use Rattle.storage.specs.World.{Lent, Dev, dev, Told, told, Seen, seen}
+use Rattle.storage.specs.World.{Lent, Dev, dev, Told, told, Seen, seen, count_in}
 use Rattle.storage.specs.Chip.{over, fetched}
 use Rattle.storage.specs.Fold.{run}
 use Rattle.storage.specs.Nor as NorOf
@@ -25,33 +29,6 @@ use Rattle.storage.proofs.Fold.{no_more}
 use Rattle.storage.proofs.Nors.{counts, read_count}
 
 -- ---- pieces of a list
-
--- a piece is never longer than what is left
-pub take_least : (p : ℕ) (xs : List ℕ) → take (min p (length xs)) xs ≡ take p xs
-take_least p xs = go (leb p (length xs)) refl
-  where
-    go : (b : Bool) → leb p (length xs) ≡ b → take (min p (length xs)) xs ≡ take p xs
-    go true e =
-        let h : p ≤ length xs = leb-true p (length xs) e in
-        let k : min p (length xs) ≡ p = omega arith in
-        ap (λ (n : ℕ). take n xs) k
-    go false e =
-        let h : length xs < p = leb-false p (length xs) e in
-        take_all (min p (length xs)) xs (omega arith) ∙ sym (take_all p xs (omega arith))
-
-pub drop_least : (p : ℕ) (xs : List ℕ) → drop (min p (length xs)) xs ≡ drop p xs
-drop_least p xs = go (leb p (length xs)) refl
-  where
-    go : (b : Bool) → leb p (length xs) ≡ b → drop (min p (length xs)) xs ≡ drop p xs
-    go true e =
-        let h : p ≤ length xs = leb-true p (length xs) e in
-        let k : min p (length xs) ≡ p = omega arith in
-        ap (λ (n : ℕ). drop n xs) k
-    go false e =
-        let h : length xs < p = leb-false p (length xs) e in
-        let i : length xs ≤ min p (length xs) = omega arith in
-        let j : length xs ≤ p = omega arith in
-        drop_of_length-le xs i ∙ sym (drop_of_length-le xs j)
 
 -- the pieces of n bytes are one and those of the rest
 pub pages_suc : (n : ℕ) → 0 < n → pages_of 256 n ≡ suc (pages_of 256 (n - 256))
@@ -98,13 +75,13 @@ plus_none k l off xs d =
 -- a piece of n bytes is the definition's
 module _ (xs : List ℕ) {n : ℕ} (h : 0 < length xs) (m : n ≡ min 256 (length xs)) where
   piece : take n xs ≡ take 256 xs
-  piece = ap (λ (k : ℕ). take k xs) m ∙ take_least 256 xs
+  piece = ap (λ (k : ℕ). take k xs) m ∙ take_min 256 xs
 
   long : length (take 256 xs) ≡ n
   long = length-take 256 xs ∙ sym m
 
   rest : drop 256 xs ≡ drop n xs
-  rest = sym (ap (λ (k : ℕ). drop k xs) m ∙ drop_least 256 xs)
+  rest = sym (ap (λ (k : ℕ). drop k xs) m ∙ drop_min 256 xs)
 
   fewer : pages_of 256 (length xs) ≡ suc (pages_of 256 (length (drop n xs)))
   fewer =
@@ -125,48 +102,78 @@ module _ (l : Lent) (off : ℕ) (xs : List ℕ) (d : Dev) {t : Told} {n : ℕ} (
   unfolding out_k
   out_went z = rw (fewer xs h m, ← wrote_piece, long xs h m, rest xs h m, z, eq-eqb n n refl)
 
--- ---- the loop: `done` bytes are counted, and what is left of them gives the rest of the answer
+-- ---- the loop: `done` bytes are counted, and the bytes that are left give the rest of the answer
 
-module _ (l : Lent) (at : ℕ) (bs : List ℕ) (done : ℕ) (d : Dev) {w : Told}
-    (inv : plus done (out_k (pages_of 256 (length (drop done bs))) l at (drop done bs) d) ≡ w) where
-  pub out_end : length bs ≤ done → told 0 done d ≡ w
+module _ (l : Lent) (at : ℕ) (xs : List ℕ) (done : ℕ) (d : Dev) {w : Told} (inv : plus done (out_k (pages_of 256 (length xs)) l at xs d) ≡ w) where
+  pub out_end : length xs ≡ 0 → told 0 done d ≡ w
   unfolding out_k
-  out_end h = sym (ap (λ (k : ℕ). told 0 k d) (add-zero done)) ∙ (rw (drop_of_length-le bs h) at inv)
+  out_end h = sym (ap (λ (k : ℕ). told 0 k d) (add-zero done)) ∙ (rw h at inv)
 
-  module _ {t : Told} {n e : ℕ} (h : done < length bs) (m : n ≡ min 256 (length bs - done)) (p : e ≡ done + n)
-      (q : t ≡ writing l at (take (e - done) (drop done bs)) d) where
-    some : 0 < length (drop done bs)
-    some = rw length-drop (omega arith)
+  module _ (piece left : List ℕ) {t : Told} {v : ℕ} (parts : xs ≡ piece ++ left) (m : length piece ≡ min 256 (length xs)) (h : 0 < length xs)
+      (q : t ≡ writing l at piece d) (k : v ≡ t.count) where
+    piece_is : piece ≡ take (length piece) xs
+    piece_is = sym (ap (take (length piece)) parts ∙ take_at piece left (length piece) refl)
 
-    least : n ≡ min 256 (length (drop done bs))
-    least = rw length-drop m
+    left_is : left ≡ drop (length piece) xs
+    left_is = sym (ap (drop (length piece)) parts ∙ drop_at piece left (length piece) refl)
 
-    wrote : t ≡ writing l at (take n (drop done bs)) d
-    wrote = let k : e - done ≡ n = omega arith in q ∙ ap (λ (j : ℕ). writing l at (take j (drop done bs)) d) k
+    wrote : t ≡ writing l at (take (length piece) xs) d
+    wrote = q ∙ ap (λ (ys : List ℕ). writing l at ys d) piece_is
 
-    pub out_few : done + t.count ≤ length bs
-    out_few =
-        let k = write_count l at (take n (drop done bs)) d wrote in
-        omega (arith, length-take n (drop done bs), length-drop done bs)
+    pub out_few : (v ≤ length piece) × (length piece + length left ≡ length xs)
+    out_few = (let z = write_count l at piece d q in omega arith, sym (ap length parts ∙ length-append piece left))
 
-    pub out_stop : (t.count ≡ n → ⊥) → told 0 (done + t.count) t.dev ≡ w
-    out_stop z = ap (plus done) (out_short l at (drop done bs) d some least wrote z) ∙ inv
+    pub out_stop : (v ≡ length piece → ⊥) → told 0 (done + v) t.dev ≡ w
+    out_stop z = ap (λ (j : ℕ). told 0 (done + j) t.dev) k ∙ ap (plus done) (out_short l at xs d h m wrote (λ e. z (k ∙ e))) ∙ inv
 
-    pub out_again : {a : ℕ} → t.count ≡ n → a ≡ sat_add at n → plus e (out_k (pages_of 256 (length (drop e bs))) l a (drop e bs) t.dev) ≡ w
+    pub out_again : {a : ℕ} → v ≡ length piece → a ≡ sat_add at v
+        → plus (done + v) (out_k (pages_of 256 (length left)) l a left t.dev) ≡ w
     out_again z s =
-        let x : drop e bs ≡ drop n (drop done bs) = ap (λ (k : ℕ). drop k bs) p ∙ sym (drop-drop n done bs) in
-        let r = out_k (pages_of 256 (length (drop n (drop done bs)))) l (sat_add at n) (drop n (drop done bs)) t.dev in
-        let k : e + r.count ≡ done + (n + r.count) = omega arith in
-        ap₂ (λ (ys : List ℕ) (o : ℕ). plus e (out_k (pages_of 256 (length ys)) l o ys t.dev)) x s
-        ∙ ap (λ (j : ℕ). told 0 j r.dev) k
-        ∙ ap (plus done) (out_went l at (drop done bs) d some least wrote z)
+        let n = length piece in
+        let r = out_k (pages_of 256 (length (drop n xs))) l (sat_add at n) (drop n xs) t.dev in
+        let e : done + v + r.count ≡ done + (n + r.count) = omega arith in
+        ap₂ (λ (ys : List ℕ) (o : ℕ). plus (done + v) (out_k (pages_of 256 (length ys)) l o ys t.dev)) left_is (s ∙ ap (sat_add at) z)
+        ∙ ap (λ (j : ℕ). told 0 j r.dev) e
+        ∙ ap (plus done) (out_went l at xs d h m wrote (sym k ∙ z))
         ∙ inv
 
--- the part of scratch that the code takes is the definition's
-part_is : (scratch : List ℕ) (at n e : ℕ) → e ≡ at + min n (length scratch - at) → take (e - at) (drop at scratch) ≡ take n (drop at scratch)
-part_is scratch at n e q =
-    let k : e - at ≡ min n (length (drop at scratch)) = rw length-drop (omega arith) in
-    ap (λ (j : ℕ). take j (drop at scratch)) k ∙ take_least n (drop at scratch)
+-- what is counted of a call's `Result`
+pub count_is : (r : Result ℕ CallError) {n : ℕ} → n ≡ result_unwrap_or r 0 → n ≡ count_in r
+count_is (Ok k) e = e
+count_is (Err x) e = e
+
+-- ---- the part of scratch that the code takes is the definition's
+
+module _ (scratch : List ℕ) (at n : ℕ) {i e : ℕ} (hi : i ≡ min at (length scratch)) (he : e ≡ min (min (at + n) 18446744073709551615) (length scratch))
+    (h : length scratch ≤ 18446744073709551615) where
+  part_size : e - i ≡ min n (length (drop at scratch))
+  part_size = rw length-drop (omega arith)
+
+  after : drop i scratch ≡ drop at scratch
+  after = ap (λ (k : ℕ). drop k scratch) hi ∙ drop_min at scratch
+
+  part_is : take (e - i) (drop i scratch) ≡ take n (drop at scratch)
+  part_is = ap₂ (λ (k : ℕ) (ys : List ℕ). take k ys) part_size after ∙ take_min n (drop at scratch)
+
+  laid : (r : List ℕ) → length r ≡ e - i → put_mid i (e - i) scratch r ≡ over at r scratch
+  unfolding over
+  laid r z =
+      let a : take i scratch ≡ take at scratch = ap (λ (k : ℕ). take k scratch) hi ∙ take_min at scratch in
+      rw (a, after, z)
+
+  module _ (l : Lent) (off : ℕ) (d : Dev) {g : Bool} (p : g ≡ (in_bounds d.store && parts_fit d.store (length d.chip) (length l.marks) (length d.buf))) (y : g ≡ true) where
+    pub from_told : {t : Told} → t ≡ out_k (pages_of 256 (length (take (e - i) (drop i scratch)))) l off (take (e - i) (drop i scratch)) d
+        → t ≡ from_scratch l off at n scratch d
+    unfolding from_scratch good
+    from_told r = r ∙ rw (part_is, ← p, y)
+
+    pub into_told : {s : Seen} → length s.room ≡ e - i → s ≡ in_k (pages_of 256 (length (take (e - i) (drop i scratch)))) l off (take (e - i) (drop i scratch)) d
+        → seen s.told (put_mid i (e - i) scratch s.room) ≡ into_scratch l off at n scratch d
+    unfolding into_scratch good
+    into_told {s} z r =
+        ap (seen s.told) (laid s.room z)
+        ∙ ap (λ (x : Seen). seen x.told (over at x.room scratch)) (r ∙ ap (λ (ys : List ℕ). in_k (pages_of 256 (length ys)) l off ys d) part_is)
+        ∙ rw (← p, y)
 
 module _ (l : Lent) (off at n : ℕ) (scratch : List ℕ) (d : Dev) {g : Bool}
     (p : g ≡ (in_bounds d.store && parts_fit d.store (length d.chip) (length l.marks) (length d.buf))) where
@@ -174,32 +181,9 @@ module _ (l : Lent) (off at n : ℕ) (scratch : List ℕ) (d : Dev) {g : Bool}
   unfolding from_scratch good
   from_none h = rw (← p, h)
 
-  pub from_past : g ≡ true → length scratch < at → told 0 0 d ≡ from_scratch l off at n scratch d
-  unfolding from_scratch good out_k
-  from_past h k = rw (drop_of_length-le scratch (le_of_lt k), take-nil, ← p, h)
-
-  pub from_told : {t : Told} {e : ℕ} → g ≡ true → e ≡ at + min n (length scratch - at)
-      → t ≡ out_k (pages_of 256 (length (take (e - at) (drop at scratch)))) l off (take (e - at) (drop at scratch)) d → t ≡ from_scratch l off at n scratch d
-  unfolding from_scratch good
-  from_told {t} {e} h q r = r ∙ rw (part_is scratch at n e q, ← p, h)
-
   pub into_none : g ≡ false → seen (told 9 0 d) scratch ≡ into_scratch l off at n scratch d
   unfolding into_scratch good
   into_none h = rw (← p, h)
-
-  pub into_past : g ≡ true → length scratch < at → seen (told 0 0 d) scratch ≡ into_scratch l off at n scratch d
-  unfolding into_scratch good in_k over
-  into_past h k =
-      rw (take_all at scratch (le_of_lt k), drop_of_length-le scratch (le_of_lt k), take-nil, append-nil, ← p, h)
-
-  pub into_told : {s : Seen} {e : ℕ} → g ≡ true → e ≡ at + min n (length scratch - at) → at ≤ length scratch → length s.room ≡ e - at
-      → s ≡ in_k (pages_of 256 (length (take (e - at) (drop at scratch)))) l off (take (e - at) (drop at scratch)) d
-      → seen s.told (put_mid at (e - at) scratch s.room) ≡ into_scratch l off at n scratch d
-  unfolding into_scratch good over
-  into_told {s} {e} h q k z r =
-      ap (λ (j : ℕ). seen s.told (take at scratch ++ (s.room ++ drop j (drop at scratch)))) (sym z)
-      ∙ ap (λ (x : Seen). seen x.told (over at x.room scratch)) (r ∙ ap (λ (ys : List ℕ). in_k (pages_of 256 (length ys)) l off ys d) (part_is scratch at n e q))
-      ∙ rw (← p, h)
 
 -- ---- into scratch
 
@@ -274,13 +258,13 @@ module _ (l : Lent) (at : ℕ) (rs : List ℕ) (done : ℕ) (d : Dev) {w : Seen}
       (λ i. seen (told 0 (sym (add-zero done) i) d) ((sym (append-nil (take done rs) ∙ take_all done rs h)) i))
       ∙ (rw (drop_of_length-le rs h) at inv)
 
-  module _ {s : Seen} {n e : ℕ} (h : done < length rs) (m : n ≡ min 256 (length rs - done)) (p : e ≡ done + n)
-      (q : s ≡ reading l at (take (e - done) (drop done rs)) d) where
+  module _ {s : Seen} {n e v : ℕ} (h : done < length rs) (m : n ≡ min (length rs - done) 256) (p : e ≡ done + n)
+      (q : s ≡ reading l at (take (e - done) (drop done rs)) d) (k : v ≡ s.told.count) where
     in_some : 0 < length (drop done rs)
     in_some = rw length-drop (omega arith)
 
     in_least : n ≡ min 256 (length (drop done rs))
-    in_least = rw length-drop m
+    in_least = rw length-drop (omega arith)
 
     gone : e - done ≡ n
     gone = omega arith
@@ -288,9 +272,9 @@ module _ (l : Lent) (at : ℕ) (rs : List ℕ) (done : ℕ) (d : Dev) {w : Seen}
     was_read : s ≡ reading l at (take n (drop done rs)) d
     was_read = q ∙ ap (λ (j : ℕ). reading l at (take j (drop done rs)) d) gone
 
-    pub in_few : done + s.told.count ≤ length rs
+    pub in_few : done + v ≤ length rs
     in_few =
-        let k = reading_count l at (take n (drop done rs)) d was_read in
+        let z = reading_count l at (take n (drop done rs)) d was_read in
         omega (arith, length-take n (drop done rs), length-drop done rs)
 
     -- the room with what was read in its place
@@ -301,11 +285,11 @@ module _ (l : Lent) (at : ℕ) (rs : List ℕ) (done : ℕ) (d : Dev) {w : Seen}
     unfolding now_room
     room_is = ap (λ (j : ℕ). take done rs ++ (s.room ++ drop j (drop done rs))) gone
 
-    pub in_stop : (s.told.count ≡ n → ⊥) → seen (told 0 (done + s.told.count) s.told.dev) (put_mid done (e - done) rs s.room) ≡ w
+    pub in_stop : (v ≡ n → ⊥) → seen (told 0 (done + v) s.told.dev) (put_mid done (e - done) rs s.room) ≡ w
     unfolding now_room
     in_stop z =
-        ap (seen (told 0 (done + s.told.count) s.told.dev)) room_is
-        ∙ ap (λ (r : Seen). seen (plus done r.told) (take done rs ++ r.room)) (in_short l at (drop done rs) d in_some in_least was_read z)
+        ap₂ (λ (j : ℕ) (r : List ℕ). seen (told 0 (done + j) s.told.dev) r) k room_is
+        ∙ ap (λ (r : Seen). seen (plus done r.told) (take done rs ++ r.room)) (in_short l at (drop done rs) d in_some in_least was_read (λ f. z (k ∙ f)))
         ∙ inv
 
     module _ (g : length s.room ≡ n) where
@@ -321,14 +305,14 @@ module _ (l : Lent) (at : ℕ) (rs : List ℕ) (done : ℕ) (d : Dev) {w : Seen}
       left : drop e now_room ≡ drop n (drop done rs)
       left = ap (drop e) grouped ∙ drop_at (take done rs ++ s.room) (drop n (drop done rs)) e front
 
-      pub in_again : {a : ℕ} → s.told.count ≡ n → a ≡ sat_add at n
+      pub in_again : {a : ℕ} → v ≡ n → a ≡ sat_add at n
           → rest_of e l a (put_mid done (e - done) rs s.room) s.told.dev ≡ w
       unfolding now_room
-      in_again z k =
+      in_again z f =
           let r = in_k (pages_of 256 (length (drop n (drop done rs)))) l (sat_add at n) (drop n (drop done rs)) s.told.dev in
           let c : e + r.told.count ≡ done + (n + r.told.count) = omega arith in
-          ap₂ (λ (o : ℕ) (ys : List ℕ). let x = in_k (pages_of 256 (length ys)) l o ys s.told.dev in seen (plus e x.told) (take e now_room ++ x.room)) k left
-          ∙ ap₂ (λ (j : ℕ) (f : List ℕ). seen (told 0 j r.told.dev) (f ++ r.room)) c taken
+          ap₂ (λ (o : ℕ) (ys : List ℕ). let x = in_k (pages_of 256 (length ys)) l o ys s.told.dev in seen (plus e x.told) (take e now_room ++ x.room)) f left
+          ∙ ap₂ (λ (j : ℕ) (g : List ℕ). seen (told 0 j r.told.dev) (g ++ r.room)) c taken
           ∙ ap (seen (told 0 (done + (n + r.told.count)) r.told.dev)) (append_assoc (take done rs) s.room r.room)
-          ∙ ap (λ (x : Seen). seen (plus done x.told) (take done rs ++ x.room)) (in_went l at (drop done rs) d in_some in_least was_read z)
+          ∙ ap (λ (x : Seen). seen (plus done x.told) (take done rs ++ x.room)) (in_went l at (drop done rs) d in_some in_least was_read (sym k ∙ z))
           ∙ inv

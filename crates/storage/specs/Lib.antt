@@ -1,9 +1,11 @@
 pub mod World
 pub mod Chip
 pub mod Fold
+pub mod Paging
 pub mod Nor
 pub mod Nand
 pub mod Partition
+pub mod Parts
 pub mod Open
 pub mod OpenExamples
 pub mod Store

@@ -5,13 +5,12 @@ use Rattle.std.specs.Int.Bits.{bit_and}
 use Rattle.text.specs.Token.{same}
 use Rattle.storage.specs.declared.types.Shape.{Shape}
 use Rattle.storage.specs.declared.types.Store.{Store}
-use Rattle.storage.specs.declared.types.Erased.{Erased}
-use Rattle.storage.specs.declared.types.Erased.TheVariants.{None, Block}
 use Rattle.storage.specs.World.{Lent, Dev, dev, Out, out, and_then, Told, told, Seen, seen}
 use Rattle.storage.specs.Chip.{failing, able, called, over, programs, fetched}
 use Rattle.storage.specs.Fold.{run, base, writes}
 use Rattle.storage.specs.Open.{page_ok}
 use Rattle.storage.specs.Nor.{freed, holding, holds, pages_of, sat_add}
+use Rattle.std.specs.Prelude.{Option, None, Some}
 
 -- ---- what an opening has tested (01, refusal 13) and later calls test again
 
@@ -67,16 +66,16 @@ asks_good l k d =
 -- ---- the buffering
 
 -- the record with another erased block
-abbrev pub noting : Erased → Store → Store
+abbrev pub noting : Option ℕ → Store → Store
 noting e s = record { shape = s.shape; held = s.held; at = s.at; erased = e; calls = s.calls }
 
-abbrev pub remember : Erased → Dev → Dev
+abbrev pub remember : Option ℕ → Dev → Dev
 remember e d = dev (noting e d.store) d.chip d.buf
 
 -- is block k the one that was erased last and may be programmed on
-unfoldable pub is_erased : Erased → ℕ → Bool
+unfoldable pub is_erased : Option ℕ → ℕ → Bool
 is_erased None k = false
-is_erased (Block b) k = eqb b k
+is_erased (Some b) k = eqb b k
 
 -- block k is erased, if it is on the chip and good: `erase_checked`
 unfoldable pub erase_checked : Lent → ℕ → Dev → Out
@@ -86,7 +85,7 @@ erase_checked l k d = cond (ltb k d.store.shape.blocks) (and_then (asks_good l k
 unfoldable pub ready : Lent → ℕ → Dev → Out
 ready l k d =
     let e = erase_checked l k d in
-    cond (is_erased d.store.erased k) (out true d) (cond e.ok (out true (remember (Block k) e.dev)) (out false (remember None e.dev)))
+    cond (is_erased d.store.erased k) (out true d) (cond e.ok (out true (remember (Some k) e.dev)) (out false (remember None e.dev)))
 
 -- the held page is programmed; a failure forgets what was erased
 unfoldable pub burns : Lent → Dev → Out

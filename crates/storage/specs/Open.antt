@@ -1,14 +1,14 @@
 -- Openings, in the words and the order of 01's refusals 10 to 14; the tests that a later call makes of a record and of what is lent
 -- with it (refusal 9); and the questions of a store.
-use Rattle.std.specs.Prelude.{Bool, true, false, ◌&&◌, ◌||◌, cond, List, [], ◌∷◌, ℕ, ◌+◌, ◌*◌, ◌%◌, ◌^◌, max, leb, ltb, eqb}
+use Rattle.std.specs.Prelude.{Result, Ok, Err, Bool, true, false, ◌&&◌, ◌||◌, cond, List, [], ◌∷◌, ℕ, ◌+◌, ◌*◌, ◌%◌, ◌^◌, max, leb, ltb, eqb}
 use Rattle.std.specs.Int.Count.{count_trailing_zeros}
 use Rattle.storage.specs.declared.types.Kind.{Kind}
 use Rattle.storage.specs.declared.types.Kind.TheVariants.{Nor, Nand}
-use Rattle.storage.specs.declared.types.Erased.TheVariants.{None}
 use Rattle.storage.specs.declared.types.Store.{Store}
-use Rattle.storage.specs.declared.open.Opened.{Opened}
-use Rattle.storage.specs.declared.open.Opened.TheVariants.{Ready, Refused}
+use Rattle.storage.specs.declared.types.Refusal.{Refusal}
+use Rattle.storage.specs.declared.types.Refusal.TheVariants.{Rooms, Buffer, ChipSize, Partitions, Geometry, Scratch}
 use Rattle.storage.specs.Partition.{Lists, lists_ok, end_of}
+use Rattle.std.specs.Prelude.{None}
 
 -- ---- geometry: row 13
 
@@ -72,31 +72,40 @@ nand_store page pages blocks capacity stage device =
       calls = 0;
     }
 
--- refusal n unless the test holds
-abbrev pub unless : Bool → ℕ → Opened → Opened
-unless ok n o = cond ok o (Refused n)
+-- 01's number of a refusal
+abbrev pub refusal_number : Refusal → ℕ
+refusal_number Rooms = 9
+refusal_number Buffer = 10
+refusal_number ChipSize = 11
+refusal_number Partitions = 12
+refusal_number Geometry = 13
+refusal_number Scratch = 14
+
+-- refused for a reason unless the test holds
+abbrev pub unless : Bool → Refusal → Result Store Refusal → Result Store Refusal
+unless ok r o = cond ok o (Err r)
 
 -- a NOR's opening from the lengths of chip and buffer, the lists, the scratch's base and length, the boot stage and the device id
-unfoldable pub opened_nor : ℕ → ℕ → Lists → ℕ → ℕ → ℕ → ℕ → Opened
+unfoldable pub opened_nor : ℕ → ℕ → Lists → ℕ → ℕ → ℕ → ℕ → Result Store Refusal
 opened_nor chip buffer l base scratch stage device =
-    unless (leb 4096 buffer) 10
-    (unless (nor_size chip) 11
-    (unless (lists_ok l) 12
-    (unless (scratch_ok base scratch) 14
-    (Ready (nor_store chip (end_of l) stage device)))))
+    unless (leb 4096 buffer) Buffer
+    (unless (nor_size chip) ChipSize
+    (unless (lists_ok l) Partitions
+    (unless (scratch_ok base scratch) Scratch
+    (Ok (nor_store chip (end_of l) stage device)))))
 
 -- a NAND's opening from the chip's length, its numbers, the marks' length, the capacity, and the rest as above
-unfoldable pub opened_nand : ℕ → ℕ → ℕ → ℕ → ℕ → ℕ → Lists → ℕ → ℕ → ℕ → ℕ → Opened
+unfoldable pub opened_nand : ℕ → ℕ → ℕ → ℕ → ℕ → ℕ → Lists → ℕ → ℕ → ℕ → ℕ → Result Store Refusal
 opened_nand chip page pages blocks marks capacity l base scratch stage device =
-    unless (lists_ok l) 12
-    (unless (numbers_ok page pages blocks chip marks capacity) 13
-    (unless (scratch_ok base scratch) 14
-    (Ready (nand_store page pages blocks capacity stage device))))
+    unless (lists_ok l) Partitions
+    (unless (numbers_ok page pages blocks chip marks capacity) Geometry
+    (unless (scratch_ok base scratch) Scratch
+    (Ok (nand_store page pages blocks capacity stage device))))
 
 -- 01's number of an opening's answer
-abbrev pub opened_number : Opened → ℕ
-opened_number (Ready s) = 0
-opened_number (Refused n) = n
+abbrev pub opened_number : Result Store Refusal → ℕ
+opened_number (Ok s) = 0
+opened_number (Err r) = refusal_number r
 
 -- ---- what later calls test
 

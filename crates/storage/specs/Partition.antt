@@ -1,13 +1,11 @@
 -- Partitions: lent lists of offsets, sizes and name lengths, and the names' bytes one behind the other (01, refusal 12 and the
 -- lookup; storage.rs `Partition`).
-use Rattle.std.specs.Prelude.{Bool, true, ◌&&◌, cond, List, [], ◌∷◌, ℕ, ◌+◌, ◌^◌, max, leb, eqb, length, take, drop}
+use Rattle.std.specs.Prelude.{Option, Some, None, Result, Ok, Err, Bool, true, ◌&&◌, cond, List, [], ◌∷◌, ℕ, ◌+◌, ◌^◌, max, leb, eqb, length, take, drop}
 use Rattle.text.specs.Utf8.{is_utf8}
 use Rattle.text.specs.Trim.{trim}
 use Rattle.text.specs.Token.{until, same}
-use Rattle.storage.specs.declared.partition.Found.{Found}
-use Rattle.storage.specs.declared.partition.Found.TheVariants.{At, Nothing, Refused}
-use Rattle.storage.specs.declared.partition.Table.{Table}
-use Rattle.storage.specs.declared.partition.Table.TheVariants.{Bad, Ends}
+use Rattle.storage.specs.declared.types.CallError.{CallError}
+use Rattle.storage.specs.declared.types.CallError.TheVariants.{Refused}
 
 -- the lists as they are lent
 pub record Lists : Type 0 where
@@ -71,27 +69,27 @@ unfoldable pub end_of : Lists → ℕ
 end_of l = cond (lists_ok l) (table_end (parts l)) 0
 
 -- the test and the largest end as the code's one answer: of a partition, and of the lists
-unfoldable pub part_end : Part → Table
-part_end p = cond (part_ok p) (Ends (p.offset + p.size)) Bad
+unfoldable pub part_end : Part → Option ℕ
+part_end p = cond (part_ok p) (Some (p.offset + p.size)) None
 
-unfoldable pub table_of : Lists → Table
-table_of l = cond (lists_ok l) (Ends (table_end (parts l))) Bad
+unfoldable pub table_of : Lists → Option ℕ
+table_of l = cond (lists_ok l) (Some (table_end (parts l))) None
 
--- the first partition of a name
-unfoldable pub find : List ℕ → List Part → Found
-find name [] = Nothing
-find name (p ∷ ps) = cond (same p.name name) (At p.offset) (find name ps)
+-- where the first partition of a name starts
+unfoldable pub find : List ℕ → List Part → Option ℕ
+find name [] = None
+find name (p ∷ ps) = cond (same p.name name) (Some p.offset) (find name ps)
 
 -- the name that is looked up: the text before the first `;`, trimmed of White_Space
 unfoldable pub wanted : List ℕ → List ℕ
 wanted name = trim (until 0x3B name)
 
--- where a named partition starts; a text that is not UTF-8 names none
-unfoldable pub lookup : Lists → List ℕ → Found
-lookup l name = cond (lists_ok l) (cond (is_utf8 name) (find (wanted name) (parts l)) Nothing) Refused
+-- where a named partition starts; a text that is not UTF-8 names none; lists that an opening refuses are refused
+unfoldable pub lookup : Lists → List ℕ → Result (Option ℕ) CallError
+lookup l name = cond (lists_ok l) (Ok (cond (is_utf8 name) (find (wanted name) (parts l)) None)) (Err Refused)
 
 -- 01's number of a lookup's answer: done, failed, refused
-abbrev pub found_number : Found → ℕ
-found_number (At o) = 0
-found_number Nothing = 1
-found_number Refused = 9
+abbrev pub found_number : Result (Option ℕ) CallError → ℕ
+found_number (Ok (Some o)) = 0
+found_number (Ok None) = 1
+found_number (Err e) = 9

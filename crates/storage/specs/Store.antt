@@ -1,8 +1,6 @@
 -- What a caller of the storage is told, for whichever kind of device: flush, erase, write and read. Each call first tests the
 -- record and the lent parts and refuses with 9, changing nothing (01, row 9).
 use Rattle.std.specs.Prelude.{Bool, ◌&&◌, cond, List, ℕ, length}
-use Rattle.storage.specs.declared.types.Answer.{Answer}
-use Rattle.storage.specs.declared.types.Store.{Store}
 use Rattle.storage.specs.World.{Lent, Dev, Told, told, report, Seen, seen}
 use Rattle.storage.specs.Nor as NorOf
 use Rattle.storage.specs.Nand as NandOf
@@ -27,7 +25,3 @@ writing l off xs d = by_good l d (NorOf.written l.faults off xs d) (NandOf.writt
 
 unfoldable pub reading : Lent → ℕ → List ℕ → Dev → Seen
 reading l off room d = by_good l d (NorOf.read_out l.faults off room d) (NandOf.read_out l off room d) (seen (told 9 0 d) room)
-
--- the record of an answer
-abbrev pub answer : ℕ → ℕ → Store → Answer
-answer status count s = record { status = status; count = count; store = s }

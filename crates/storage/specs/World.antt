@@ -1,6 +1,8 @@
 -- The whole state of a store and what calls leave of it, as every kind of device has it.
-use Rattle.std.specs.Prelude.{Bool, true, false, cond, List, ℕ}
+use Rattle.std.specs.Prelude.{Result, Ok, Err, Bool, true, false, cond, List, ℕ}
 use Rattle.storage.specs.declared.types.Store.{Store}
+use Rattle.storage.specs.declared.types.CallError.{CallError}
+use Rattle.storage.specs.declared.types.CallError.TheVariants.{Failed, Refused}
 
 -- what is lent and never changed: which chip calls fail, and the marks of a NAND's blocks
 pub record Lent : Type 0 where
@@ -54,3 +56,20 @@ pub record Seen : Type 0 where
 
 abbrev pub seen : Told → List ℕ → Seen
 seen t room = record { told = t; room = room }
+
+-- ---- a call's `Result` as what is told
+
+-- 01's number of an error
+abbrev pub call_number : CallError → ℕ
+call_number Failed = 1
+call_number Refused = 9
+
+-- its status: 0 where it succeeded
+abbrev pub status_in : {A : Type 0} → Result A CallError → ℕ
+status_in (Ok a) = 0
+status_in (Err e) = call_number e
+
+-- the bytes that it moved: none where it did not succeed
+abbrev pub count_in : Result ℕ CallError → ℕ
+count_in (Ok n) = n
+count_in (Err e) = 0

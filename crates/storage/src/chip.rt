@@ -1,83 +1,79 @@
-// What all modelled chips share (01, 'Chips and buffering'): calls take numbers, a lent list says
+// What all modelled chips share: calls take numbers, a lent list says
 // which of them fail, and a call out of range errs.
-ghost use Rattle.std.specs.Prelude.{◌≡◌, ◌<◌, length, replicate};
-ghost use Rattle.storage.specs.Chip.{failing, next_call, called, able, got, fetched};
+ghost use Rattle.std.specs.Prelude.{◌≡◌, ◌+◌, leb, is_ok, length, replicate};
+ghost use Rattle.storage.specs.Chip.{failing, called, able, got, fetched};
 
-use crate::types::{Done, Store};
-use wire::bytes::put;
+use crate::lent::Lent;
+use crate::types::{ChipError, Store};
 
-// Every byte becomes `v`.
+// Every byte becomes `v`. It stays for the theorem `fill_one` (promises): the steps of nor.rt and nand.rt fill by
+// std's method.
 pub fn fill(s: &mut [u8], v: u8)
     ensures { s.new ≡ replicate (length s.old) v }
 {
-    let mut i = 0;
-    while i < s.len() {
-        s[i] = v;
-        i += 1;
-    }
+    s.fill(v);
 }
 
-// Is call number n told to fail.
-pub(crate) fn fails(faults: &[u8], n: u64) -> bool
+// Is call number n told to fail: the last byte stands for all later calls.
+#[tactic(auto, unfolding(crate::specs::Chip::failing))]
+fn fails(faults: &[u8], n: u64) -> bool
     ensures { result ≡ failing faults.now n }
 {
-    let len = faults.len();
-    if len == 0 {
-        return false;
-    }
-    let at = n as usize;
-    if at < len {
-        0 < faults[at]
-    } else {
-        0 < faults[len - 1]
-    }
+    faults
+        .get(n as usize)
+        .or(faults.last())
+        .is_some_and(|fault| *fault != 0)
 }
 
-fn next_call(n: u64) -> u64
-    ensures { result ≡ next_call n }
+// Do n bytes from a place on end within a size.
+fn within(at: usize, n: usize, size: usize) -> bool
+    ensures { result ≡ leb (at + n) size }
 {
-    if n < 18446744073709551615 { n + 1 } else { n }
+    n <= size && at <= size - n
 }
 
-// One more call was made.
-pub(crate) fn take_call(s: Store) -> Store
-    ensures { result ≡ called s }
-{
-    let mut next = s;
-    next.calls = next_call(s.calls);
-    next
-}
+impl Store {
+    // Is the next chip call, on n bytes at a place, in range and not told to fail.
+    // A place, here and in the steps of both kinds: it is the address of the call, which may lie past the chip.
+    #[tactic(auto, unfolding(crate::specs::Chip::able))]
+    fn may(&self, lent: &Lent<'_>, chip: &[u8], at: usize, n: usize) -> bool
+        ensures { result ≡ able lent.now.faults self.now chip.now at n }
+    {
+        within(at, n, chip.len()) && !fails(lent.faults, self.calls)
+    }
 
-// Is a chip call on n bytes at a place in range, and not told to fail.
-pub(crate) fn may(s: Store, faults: &[u8], chip: &[u8], at: usize, n: usize) -> bool
-    ensures { result ≡ able faults.now s chip.now at n }
-{
-    let size = chip.len();
-    if size < n {
-        return false;
+    /// The next chip call is made, on n bytes at a place: it takes its number, and errs where it is out of range or
+    /// told to fail.
+    pub(crate) fn call(
+        &mut self,
+        lent: &Lent<'_>,
+        chip: &[u8],
+        at: usize,
+        n: usize,
+    ) -> Result<(), ChipError>
+        ensures made { is_ok result ≡ able lent.now.faults self.old chip.now at n }
+        ensures counted { self.new ≡ called self.old }
+    {
+        let may = self.may(lent, chip, at, n);
+        self.calls = self.calls.saturating_add(1);
+        if may { Ok(()) } else { Err(ChipError) }
     }
-    if size - n < at {
-        return false;
-    }
-    !fails(faults, s.calls)
-}
 
-// A chip read that fills the room from a place on.
-pub(crate) fn fetch(s: Store, faults: &[u8], chip: &[u8], at: usize, room: &mut [u8]) -> Done
-    ensures { got result.ok result.store room.new ≡ fetched faults.now at s chip.now room.old }
-{
-    let next = take_call(s);
-    let n = room.len();
-    if !may(s, faults, chip, at, n) {
-        return Done {
-            ok: false,
-            store: next,
-        };
-    }
-    let end = at + n;
-    put(room, 0, &chip[at..end]);
-    Done {
-        ok: true,
-        store: next,
+    /// A chip read that fills the room from a place on. A call that errs leaves the room.
+    #[tactic(auto, unfolding(crate::specs::Chip::fetched, crate::specs::Chip::able))]
+    pub(crate) fn fetch(
+        &mut self,
+        lent: &Lent<'_>,
+        chip: &[u8],
+        at: usize,
+        room: &mut [u8],
+    ) -> Result<(), ChipError>
+        ensures { got (is_ok result) self.new room.new ≡ fetched lent.now.faults at self.old chip.now room.old }
+    {
+        let n = room.len();
+        self.call(lent, chip, at, n)?;
+        let end = at + n;
+        room.copy_from_slice(&chip[at..end]);
+        Ok(())
     }
 }

@@ -3,9 +3,11 @@
 
 pub mod buffering;
 pub mod chip;
+pub mod lent;
 pub mod nand;
 pub mod nor;
 pub mod open;
+mod paging;
 pub mod partition;
 pub mod scratch;
 pub mod store;

@@ -2,124 +2,118 @@
 // No call asks anything of its caller: a record out of bounds, or parts that an opening would refuse,
 // are refused with 9, and nothing is changed.
 ghost use Rattle.std.specs.Prelude.{◌≡◌};
-ghost use Rattle.storage.specs.World.{lent, dev, told, seen, status_of};
-ghost use Rattle.storage.specs.Store.{answer, flushing, erasing, writing, reading};
+ghost use Rattle.storage.specs.World.{dev, told, seen, status_in, count_in};
+ghost use Rattle.storage.specs.Store.{good, flushing, erasing, writing, reading};
 
-use crate::open::fits;
-use crate::types::{Answer, Done, Kind, Store};
-use crate::{nand, nor};
+use crate::lent::Lent;
+use crate::nand::Pages;
+use crate::nor::Sectors;
+use crate::paging;
+use crate::types::{CallError, ChipError, Kind, Store};
 
-// Refused: nothing is changed.
-pub(crate) fn refused(s: Store) -> Answer
-    ensures { result ≡ answer 9 0 s }
-{
-    Answer {
-        status: 9,
-        count: 0,
-        store: s,
+// A step that fails is a call that fails.
+impl From<ChipError> for CallError {
+    ghost use Rattle.storage.specs.declared.types.CallError.TheVariants.{Failed};
+
+    ghost from_gives = { λ _ e. e ≡ Failed };
+
+    fn from(_error: ChipError) -> CallError {
+        CallError::Failed
     }
 }
 
-fn status_of(ok: bool) -> u8
-    ensures { result ≡ status_of ok }
-{
-    if ok { 0 } else { 1 }
-}
+impl Store {
+    // Is the record in bounds, and are the parts those that an opening takes.
+    #[tactic(auto, unfolding(crate::specs::Store::good))]
+    pub(crate) fn accepts(&self, lent: &Lent<'_>, chip: &[u8], buffer: &[u8]) -> bool
+        ensures { result ≡ good lent.now (dev self.now chip.now buffer.now) }
+    {
+        self.fits(chip.len(), lent.marks.len(), buffer.len())
+    }
 
-// What is told of a call that succeeds or fails.
-fn reported(d: Done) -> Answer
-    ensures { result ≡ answer (status_of d.ok) 0 d.store }
-{
-    let status = status_of(d.ok);
-    let store = d.store;
-    Answer {
-        status: status,
-        count: 0,
-        store: store,
+    /// A held sector or page is written out: storage.rs's `flush`. A failure keeps it.
+    #[tactic(auto, unfolding(crate::specs::Store::flushing, crate::specs::Store::by_good), using(crate::proofs::Stores::room, crate::proofs::Stores::shaped))]
+    pub fn flush(
+        &mut self,
+        lent: &Lent<'_>,
+        chip: &mut [u8],
+        buffer: &[u8],
+    ) -> Result<(), CallError>
+        ensures { told (status_in result) 0 (dev self.new chip.new buffer.now) ≡ flushing lent.now (dev self.old chip.old buffer.now) }
+    {
+        if !self.accepts(lent, chip, buffer) {
+            return Err(CallError::Refused);
+        }
+        match self.shape.kind {
+            Kind::Nor => self.nor_flush(lent, chip, buffer)?,
+            Kind::Nand => self.nand_flush(lent, chip, buffer)?,
+        }
+        Ok(())
     }
-}
 
-// A held sector or page is written out.
-pub fn flush(s: Store, faults: &[u8], marks: &[u8], chip: &mut [u8], buffer: &[u8]) -> Answer
-    ensures { told result.status result.count (dev result.store chip.new buffer.now) ≡ flushing (lent faults.now marks.now) (dev s chip.old buffer.now) }
-{
-    if !fits(s, chip.len(), marks.len(), buffer.len()) {
-        return refused(s);
+    /// A range of `size` bytes is erased, in whole sectors or blocks, after a flush: storage.rs's `erase`.
+    #[tactic(auto, using(crate::proofs::Stores::room, crate::proofs::Stores::shaped), unfolding(crate::specs::Store::erasing, crate::specs::Store::by_good))]
+    pub fn erase(
+        &mut self,
+        lent: &Lent<'_>,
+        chip: &mut [u8],
+        buffer: &[u8],
+        start: u64,
+        size: u64,
+    ) -> Result<(), CallError>
+        ensures { told (status_in result) 0 (dev self.new chip.new buffer.now) ≡ erasing lent.now start size (dev self.old chip.old buffer.now) }
+    {
+        if !self.accepts(lent, chip, buffer) {
+            return Err(CallError::Refused);
+        }
+        match self.shape.kind {
+            Kind::Nor => self.nor_erase(lent, chip, buffer, start, size)?,
+            Kind::Nand => self.nand_erase(lent, chip, buffer, start, size)?,
+        }
+        Ok(())
     }
-    let shape = s.shape;
-    let kind = shape.kind;
-    match kind {
-        Kind::Nor => reported(nor::flush(s, faults, chip, buffer)),
-        Kind::Nand => reported(nand::flush(s, faults, marks, chip, buffer)),
-    }
-}
 
-// A range is erased, in whole sectors or blocks, after a flush.
-pub fn erase(
-    s: Store,
-    faults: &[u8],
-    marks: &[u8],
-    chip: &mut [u8],
-    buffer: &[u8],
-    start: u64,
-    size: u64,
-) -> Answer
-    ensures { told result.status result.count (dev result.store chip.new buffer.now) ≡ erasing (lent faults.now marks.now) start size (dev s chip.old buffer.now) }
-{
-    if !fits(s, chip.len(), marks.len(), buffer.len()) {
-        return refused(s);
+    /// Bytes are written from an offset on: how many were taken. None are where they do not fit below the
+    /// capacity.
+    #[tactic(auto, using(crate::proofs::Stores::room, crate::proofs::Stores::shaped), unfolding(crate::specs::Store::writing, crate::specs::Store::by_good, crate::specs::Nor::written, crate::specs::Nand::written))]
+    pub fn write(
+        &mut self,
+        lent: &Lent<'_>,
+        chip: &mut [u8],
+        buffer: &mut [u8],
+        offset: u64,
+        bytes: &[u8],
+    ) -> Result<usize, CallError>
+        ensures { told (status_in result) (count_in result) (dev self.new chip.new buffer.new) ≡ writing lent.now offset bytes.now (dev self.old chip.old buffer.old) }
+    {
+        if !self.accepts(lent, chip, buffer) {
+            return Err(CallError::Refused);
+        }
+        Ok(match self.shape.kind {
+            Kind::Nor => paging::write::<Sectors>(self, lent, chip, buffer, offset, bytes),
+            Kind::Nand => paging::write::<Pages>(self, lent, chip, buffer, offset, bytes),
+        })
     }
-    let shape = s.shape;
-    let kind = shape.kind;
-    match kind {
-        Kind::Nor => reported(nor::erase(s, faults, chip, buffer, start, size)),
-        Kind::Nand => reported(nand::erase(s, faults, marks, chip, buffer, start, size)),
-    }
-}
 
-// Bytes are written from an offset on; the count says how many were taken.
-pub fn write(
-    s: Store,
-    faults: &[u8],
-    marks: &[u8],
-    chip: &mut [u8],
-    buffer: &mut [u8],
-    offset: u64,
-    bytes: &[u8],
-) -> Answer
-    ensures { told result.status result.count (dev result.store chip.new buffer.new) ≡ writing (lent faults.now marks.now) offset bytes.now (dev s chip.old buffer.old) }
-{
-    if !fits(s, chip.len(), marks.len(), buffer.len()) {
-        return refused(s);
-    }
-    let shape = s.shape;
-    let kind = shape.kind;
-    match kind {
-        Kind::Nor => nor::write(s, faults, chip, buffer, offset, bytes),
-        Kind::Nand => nand::write(s, faults, marks, chip, buffer, offset, bytes),
-    }
-}
-
-// Bytes are read from an offset on, after a flush; the count says how many, and the room beyond them
-// stays as it was.
-pub fn read(
-    s: Store,
-    faults: &[u8],
-    marks: &[u8],
-    chip: &mut [u8],
-    buffer: &[u8],
-    offset: u64,
-    room: &mut [u8],
-) -> Answer
-    ensures { seen (told result.status result.count (dev result.store chip.new buffer.now)) room.new ≡ reading (lent faults.now marks.now) offset room.old (dev s chip.old buffer.now) }
-{
-    if !fits(s, chip.len(), marks.len(), buffer.len()) {
-        return refused(s);
-    }
-    let shape = s.shape;
-    let kind = shape.kind;
-    match kind {
-        Kind::Nor => nor::read(s, faults, chip, buffer, offset, room),
-        Kind::Nand => nand::read(s, faults, marks, chip, buffer, offset, room),
+    /// Bytes are read from an offset on, after a flush: how many. The room beyond them stays as it was.
+    // As `write`, but for what is lent to be changed: one function for both would lend it for a read too.
+    #[tactic(auto, using(crate::proofs::Stores::room, crate::proofs::Stores::shaped), unfolding(crate::specs::Store::reading, crate::specs::Store::by_good, crate::specs::Nor::read_out, crate::specs::Nand::read_out))]
+    pub fn read(
+        &mut self,
+        lent: &Lent<'_>,
+        chip: &mut [u8],
+        buffer: &[u8],
+        offset: u64,
+        room: &mut [u8],
+    ) -> Result<usize, CallError>
+        ensures { seen (told (status_in result) (count_in result) (dev self.new chip.new buffer.now)) room.new ≡ reading lent.now offset room.old (dev self.old chip.old buffer.now) }
+    {
+        if !self.accepts(lent, chip, buffer) {
+            return Err(CallError::Refused);
+        }
+        Ok(match self.shape.kind {
+            Kind::Nor => paging::read::<Sectors>(self, lent, chip, buffer, offset, room),
+            Kind::Nand => paging::read::<Pages>(self, lent, chip, buffer, offset, room),
+        })
     }
 }

@@ -17,7 +17,7 @@ use Rattle.storage.specs.declared.types.Kind.{Kind}
 use Rattle.storage.specs.declared.types.Kind.TheVariants.{Nor, Nand}
 use Rattle.storage.specs.declared.types.Shape.{Shape}
 use Rattle.storage.specs.declared.types.Store.{Store}
-use Rattle.storage.specs.declared.open.Opened.TheVariants.{Ready}
+use Rattle.std.specs.Prelude.{Ok}
 use Rattle.storage.specs.World.{Lent, lent, Dev, dev, Out, Told, status_of, Seen}
 use Rattle.storage.specs.Nor.{sat_add}
 use Rattle.storage.specs.Nand.{blanks}
@@ -196,7 +196,7 @@ fresh_order l d g h n = record { taken = g; calls = omega arith; rests = record 
 
 -- a NOR that is opened over a chip and a buffer
 pub nor_opening_lem : (l : Lent) (chip buf : List ℕ) (table : Lists) (base scratch stage device : ℕ) (s : Store)
-    → opened_nor (length chip) (length buf) table base scratch stage device ≡ Ready s → InOrder l (dev s chip buf)
+    → opened_nor (length chip) (length buf) table base scratch stage device ≡ Ok s → InOrder l (dev s chip buf)
 unfolding good
 nor_opening_lem l chip buf table base scratch stage device s e =
     let q = (opened_nor_lem (length chip) (length buf) table base scratch stage device s e).store in
@@ -205,7 +205,7 @@ nor_opening_lem l chip buf table base scratch stage device s e =
 
 -- a NAND that is opened over a chip and its marks, with a buffer that later calls take
 pub nand_opening_lem : (l : Lent) (chip buf : List ℕ) (page pages blocks capacity : ℕ) (table : Lists) (base scratch stage device : ℕ) (s : Store) → 4096 ≤ length buf
-    → opened_nand (length chip) page pages blocks (length l.marks) capacity table base scratch stage device ≡ Ready s → InOrder l (dev s chip buf)
+    → opened_nand (length chip) page pages blocks (length l.marks) capacity table base scratch stage device ≡ Ok s → InOrder l (dev s chip buf)
 unfolding good
 nand_opening_lem l chip buf page pages blocks capacity table base scratch stage device s h e =
     let q = (opened_nand_lem (length chip) page pages blocks (length l.marks) capacity table base scratch stage device s e).store in

@@ -12,7 +12,6 @@ use Rattle.std.proofs.Math.Nat.{add-zero}
 use native.Mathlib.Omega.{arith}
 use Rattle.std.proofs.Math.ListN.{length, take, length-drop, length-append, length-set}
 use Rattle.std.proofs.lemmas.List.Edits.{sets}
-use Rattle.storage.specs.declared.types.Erased.{Erased}
 use Rattle.storage.specs.declared.types.Shape.{Shape}
 use Rattle.storage.specs.declared.types.Store.{Store}
 use Rattle.storage.specs.World.{Dev, dev, Out, out}
@@ -28,8 +27,9 @@ use Rattle.storage.proofs.Nors.{flush_free, flush_unerased, flush_unwritten, flu
 use Rattle.nand_laws.specs.Made.{Failed}
 use Rattle.storage_laws.specs.Counted.{made_on, flushes_made, writes_made}
 use Rattle.storage_laws.specs.Faults.{QuietFrom, unmet, Stopped, stopped_wide, stop, able_told, asked}
+use Rattle.std.specs.Prelude.{Option}
 
-abbrev pub store : Shape → Bool → ℕ → Erased → ℕ → Store
+abbrev pub store : Shape → Bool → ℕ → Option ℕ → ℕ → Store
 store sh h a r n = record { shape = sh; held = h; at = a; erased = r; calls = n }
 
 unfoldable pub view : Dev → List ℕ
@@ -45,7 +45,7 @@ pub record Shows (v : List ℕ) (sh : Shape) (d : Dev) : Type 0 where
   pub is : view d ≡ v
   pub calls : d.store.calls ≤ 18446744073709551615
 
-free_go : (h : Bool) (sh : Shape) (a : ℕ) (r : Erased) (n : ℕ) (chip buf : List ℕ) → h ≡ false → 4096 ≤ length buf → length chip % 4096 ≡ 0 → n ≤ 18446744073709551615
+free_go : (h : Bool) (sh : Shape) (a : ℕ) (r : Option ℕ) (n : ℕ) (chip buf : List ℕ) → h ≡ false → 4096 ≤ length buf → length chip % 4096 ≡ 0 → n ≤ 18446744073709551615
     → Shows chip sh (dev (store sh h a r n) chip buf)
 unfolding view
 free_go true sh a r n chip buf e m w c = false_true (sym e)
@@ -61,7 +61,7 @@ pub called_shows : (v : List ℕ) (sh : Shape) (d : Dev) → Shows v sh d → Sh
 unfolding view
 called_shows v sh d s = record { room = s.room; whole = s.whole; on = s.on; long = s.long; fixed = s.fixed; is = s.is; calls = omega arith }
 
-holds_true : (h : Bool) (sh : Shape) (a : ℕ) (r : Erased) (n k : ℕ) → holds (store sh h a r n) k ≡ true → (h ≡ true) × (a ≡ k)
+holds_true : (h : Bool) (sh : Shape) (a : ℕ) (r : Option ℕ) (n k : ℕ) → holds (store sh h a r n) k ≡ true → (h ≡ true) × (a ≡ k)
 unfolding holds
 holds_true true sh a r n k e = (refl, eqb-true a k e)
 holds_true false sh a r n k e = false_true e
@@ -74,7 +74,7 @@ module _ (F : List ℕ) where
   Flushed v sh d = (e : Dev) × (flushes F d ≡ out true e) × (e.chip ≡ v) × (e.store.held ≡ false) × Shows v sh e
 
   -- neither the erase nor the write of the held sector is told to fail
-  flush_held : (v : List ℕ) (sh : Shape) (a : ℕ) (c : Shape) (r : Erased) (n : ℕ) (chip buf : List ℕ) → Shows v sh (dev (store c true a r n) chip buf) → failing F n ≡ false
+  flush_held : (v : List ℕ) (sh : Shape) (a : ℕ) (c : Shape) (r : Option ℕ) (n : ℕ) (chip buf : List ℕ) → Shows v sh (dev (store c true a r n) chip buf) → failing F n ≡ false
       → failing F (next_call n) ≡ false → Flushed v sh (dev (store c true a r n) chip buf)
   unfolding view
   flush_held v sh a c r n chip buf s f g =
@@ -88,7 +88,7 @@ module _ (F : List ℕ) where
         record { room = s.room; whole = rw l m; on = λ e. false_true e; long = l; fixed = s.fixed; is = s.is; calls = omega arith },
       )
 
-  flush_go : (v : List ℕ) (sh : Shape) (h : Bool) (c : Shape) (a : ℕ) (r : Erased) (n : ℕ) (chip buf : List ℕ) → Shows v sh (dev (store c h a r n) chip buf)
+  flush_go : (v : List ℕ) (sh : Shape) (h : Bool) (c : Shape) (a : ℕ) (r : Option ℕ) (n : ℕ) (chip buf : List ℕ) → Shows v sh (dev (store c h a r n) chip buf)
       → (let d = dev (store c h a r n) chip buf in Flushed v sh d ⊎ Stopped F d (flushes F d).ok (flushes F d).dev)
   unfolding view
   flush_go v sh true c a r n chip buf s =
@@ -183,7 +183,7 @@ module _ (F : List ℕ) where
   -- ---- write
 
   -- a byte set in the held sector's buffer is set in the view
-  set_shows : (v : List ℕ) (sh : Shape) (a x : ℕ) (c : Shape) (h : Bool) (p : ℕ) (r : Erased) (n : ℕ) (chip buf : List ℕ) → h ≡ true → p ≡ base 4096 a
+  set_shows : (v : List ℕ) (sh : Shape) (a x : ℕ) (c : Shape) (h : Bool) (p : ℕ) (r : Option ℕ) (n : ℕ) (chip buf : List ℕ) → h ≡ true → p ≡ base 4096 a
       → Shows v sh (dev (store c h p r n) chip buf) → Shows (set v a x) sh (dev (store c h p r n) chip (set buf (a % 4096) x))
   unfolding view
   set_shows v sh a x c true p r n chip buf t q s =

@@ -1,64 +1,35 @@
 -- Laws of numbers: one digit, a run of digits, the sign, the base.
 -- Assumes nothing.
-use Rattle.std.specs.Prelude.{◌≡◌, ℕ, ◌+◌, ◌-◌, ◌*◌, ◌/◌, ◌^◌, ◌<◌, ◌≤◌, Bool, true, false, cond, ltb, leb, List, [], ◌∷◌, length, get_or, drop}
+use Rattle.std.specs.Prelude.{◌≡◌, ℕ, ◌+◌, ◌*◌, ◌^◌, ◌<◌, ◌≤◌, Bool, true, false, cond, eqb, ltb, List, [], ◌∷◌, length, get_or, take, drop, Option, None, Some}
 use mathlib.Core.Path.{refl, sym, ap, ◌∙◌}
-use native.Mathlib.Nat.{mul-le-mul_left, div-lt_iff_lt-mul, le-div_iff_mul-le}
+use native.Mathlib.Nat.{mul-le-mul_left}
 use native.Mathlib.Numerals.{add-one}
 use native.Mathlib.Omega.{arith}
-use borrow.Author.Tests.{lt-ltb, le-ltb, leb-true, eq-eqb, ne_eqb}
+use borrow.Author.Tests.{lt-ltb, le-ltb}
+use mathlib.Core.Bool.{false≢true, and-true}
+use Rattle.std.specs.Borrow.{Bor}
+use Rattle.std.specs.Option.{MatchOption, unwrap_or}
+use lib.Pointwise.{pointwise}
+use Rattle.std.proofs.lemmas.Bool.Decides.{nat_tests}
+use Rattle.text.proofs.Tests.{either, hit, miss, last}
+use Rattle.text.proofs.Grammar.{begins_long}
 use lib.ListN.{drop_of_length-le}
 use lib.Seq.{drop-cons}
-use Rattle.text.specs.Utf8.{◌–◌, within}
-use Rattle.text.specs.Number.{digit_of, digits, some, signed, is_hex, numeral}
-use Rattle.text.specs.declared.number.Number.{Number}
-use Rattle.text.specs.declared.number.Number.TheVariants.{Value, Bad}
-use Rattle.text.proofs.Tests.{both}
-
--- ---- one digit, by the ranges tried in their order: t, u and v are what the tests gave
-
-pub at_least : (b lo hi : ℕ) {t : Bool} → t ≡ within b (lo – hi) → t ≡ true → lo ≤ b
-at_least b lo hi e h = leb-true lo b (both (leb lo b) (leb b hi) (sym e ∙ h)).0
-
-module _ (b : ℕ) {t : Bool} (e : t ≡ within b (0x30 – 0x39)) where
-  pub digit_9 : t ≡ true → b - 0x30 ≡ digit_of b
-  unfolding digit_of
-  digit_9 h = rw (← e, h)
-
-  module _ (h : t ≡ false) {u : Bool} (f : u ≡ within b (0x41 – 0x46)) where
-    pub digit_F : u ≡ true → b - 0x37 ≡ digit_of b
-    unfolding digit_of
-    digit_F k = rw (← e, h, ← f, k)
-
-    module _ (k : u ≡ false) {v : Bool} (g : v ≡ within b (0x61 – 0x66)) where
-      pub digit_f : v ≡ true → b - 0x57 ≡ digit_of b
-      unfolding digit_of
-      digit_f l = rw (← e, h, ← f, k, ← g, l)
-
-      pub digit_none : v ≡ false → 16 ≡ digit_of b
-      unfolding digit_of
-      digit_none l = rw (← e, h, ← f, k, ← g, l)
-
-pub ruleset digit = (digit_9, digit_F, digit_f, digit_none)
+use Rattle.text.specs.Utf8.{only, begins, any_of}
+use Rattle.text.specs.Number.{digit_of, digits, some, signed, is_hex}
 
 -- ---- a run of digits
 
 module _ (base : ℕ) (hb : 1 ≤ base) where
   -- a value that is too large stays so
-  pub over : (v : ℕ) (l : List ℕ) → 2 ^ 64 ≤ v → digits base v l ≡ Bad
+  pub over : (v : ℕ) (l : List ℕ) → 2 ^ 64 ≤ v → digits base v l ≡ None
   unfolding digits
   over v [] h = rw (le-ltb v (2 ^ 64) h)
   over v (b ∷ l) h = go (ltb (digit_of b) base) (over (v * base + digit_of b) l (omega (arith, mul-le-mul_left v hb)))
     where
-      go : (t : Bool) {r : Number} → r ≡ Bad → cond t r Bad ≡ Bad
+      go : (t : Bool) {r : Option ℕ} → r ≡ None → cond t r None ≡ None
       go true e = e
       go false e = refl
-
-  -- the code's test for a value that would be too large
-  pub too_large : (v d : ℕ) → (0xFFFF_FFFF_FFFF_FFFF - d) / base < v → d < 2 ^ 64 → 2 ^ 64 ≤ v * base + d
-  too_large v d h k = omega (arith, (div-lt_iff_lt-mul hb).0 h)
-
-  pub small_enough : (v d : ℕ) → v ≤ (0xFFFF_FFFF_FFFF_FFFF - d) / base → d < 2 ^ 64 → v * base + d < 2 ^ 64
-  small_enough v d h k = omega (arith, (le-div_iff_mul-le hb).0 h)
 
 -- at a place of a text: a digit, no digit, the end
 module _ (base : ℕ) (s : List ℕ) (i v : ℕ) where
@@ -66,39 +37,57 @@ module _ (base : ℕ) (s : List ℕ) (i v : ℕ) where
   unfolding digits
   next e h k = rw (add-one, drop-cons s i 0, digits, ← e, lt-ltb _ base k)
 
-  pub no_digit : i < length s → base ≤ digit_of (get_or s i 0) → digits base v (drop i s) ≡ Bad
+  pub no_digit : i < length s → base ≤ digit_of (get_or s i 0) → digits base v (drop i s) ≡ None
   unfolding digits
   no_digit h k = rw (drop-cons s i 0, digits, le-ltb (digit_of (get_or s i 0)) base k)
 
-  pub ended : length s ≤ i → v < 2 ^ 64 → digits base v (drop i s) ≡ Value v
+  pub ended : length s ≤ i → v < 2 ^ 64 → digits base v (drop i s) ≡ Some v
   unfolding digits
   ended h k = ap (digits base v) (drop_of_length-le s h) ∙ rw (lt-ltb v (2 ^ 64) k)
 
--- ---- at least one digit, and a sign, at a place of a text
+-- ---- at least one digit, a sign, and the base
 
-module _ (base : ℕ) (s : List ℕ) (i : ℕ) where
-  pub some_past : length s ≤ i → Bad ≡ some base (drop i s)
+module _ (base : ℕ) where
+  pub no_digits : (s : List ℕ) → length s ≡ 0 → None ≡ some base s
   unfolding some
-  some_past h = ap (some base) (sym (drop_of_length-le s h))
+  no_digits [] h = refl
+  no_digits (b ∷ s) h = absurd (omega arith)
 
-  pub some_at : i < length s → digits base 0 (drop i s) ≡ some base (drop i s)
+  pub some_digits : (s : List ℕ) → (length s ≡ 0 → ⊥) → digits base 0 s ≡ some base s
   unfolding some
-  some_at h = rw (drop-cons s i 0)
+  some_digits [] h = absurd (h refl)
+  some_digits (b ∷ s) h = refl
 
-  pub sign_past : length s ≤ i → Bad ≡ signed base (drop i s)
-  unfolding signed
-  sign_past h = ap (signed base) (sym (drop_of_length-le s h))
+  -- a sign in front: t is what the test for it gave
+  sign_is : (s : List ℕ) (t : Bool) → pointwise eqb (take 1 s) (0x2B ∷ []) ≡ t → cond t (some base (drop 1 s)) (some base s) ≡ signed base s
+  unfolding some signed
+  sign_is [] true e = absurd (false≢true e)
+  sign_is [] false e = refl
+  sign_is (b ∷ s) t e = ap (λ (u : Bool). cond u (some base s) (some base (b ∷ s))) (sym e ∙ and-true (eqb b 0x2B))
 
-  pub sign_plus : i < length s → get_or s i 0 ≡ 0x2B → some base (drop (i + 1) s) ≡ signed base (drop i s)
-  unfolding signed
-  sign_plus h e = rw (add-one, drop-cons s i 0, signed, eq-eqb (get_or s i 0) 0x2B e)
+  pub sign : (s : Bor (List ℕ)) (r : Option (Bor (List ℕ)))
+      → MatchOption r (pointwise eqb (take 1 s.now) (0x2B ∷ []) ≡ false)
+      (λ x. (pointwise eqb (take 1 s.now) (0x2B ∷ []) ≡ true) × (x.now ≡ drop 1 s.now) × (length x.now + 1 ≡ length s.now))
+      → some base (unwrap_or r s).now ≡ signed base s.now
+  sign s None h = sign_is s.now false h
+  sign s (Some x) h = ap (some base) h.1 ∙ sign_is s.now true h.0
 
-  pub sign_none : i < length s → (get_or s i 0 ≡ 0x2B → ⊥) → some base (drop i s) ≡ signed base (drop i s)
-  unfolding signed
-  sign_none h e = rw (drop-cons s i 0, signed, ne_eqb (get_or s i 0) 0x2B e)
+-- two bytes in front
+pair_is : (k l : ℕ) (t : List ℕ) → pointwise eqb (k ∷ l ∷ []) (take 2 t) ≡ begins t (only k ∷ only l ∷ [])
+unfolding begins
+pair_is k l [] = refl
+pair_is k l (a ∷ []) = grind (arith, nat_tests)
+pair_is k l (a ∷ b ∷ t) = grind (arith, nat_tests)
 
--- ---- which base: x is what the test for 0x gave
+module _ (t : List ℕ) {r : Bool} (e : r ≡ pointwise eqb (0x30 ∷ 0x78 ∷ []) (take 2 t)) where
+  pub hex_small : r ≡ true → r ≡ is_hex t
+  unfolding is_hex
+  hex_small h = h ∙ hit (begins t) _ _ (e ∙ pair_is 0x30 0x78 t) h
 
-pub numeral_is : (t : List ℕ) {x : Bool} → x ≡ is_hex t → cond x (signed 16 (drop 2 t)) (signed 10 t) ≡ numeral t
-unfolding numeral
-numeral_is t e = ap (λ (b : Bool). cond b (signed 16 (drop 2 t)) (signed 10 t)) e
+  pub hex_large : r ≡ false → {u : Bool} → u ≡ pointwise eqb (0x30 ∷ 0x58 ∷ []) (take 2 t) → u ≡ is_hex t
+  unfolding is_hex
+  hex_large h f = miss (begins t) _ _ (e ∙ pair_is 0x30 0x78 t) h (last (begins t) _ (f ∙ pair_is 0x30 0x58 t))
+
+pub hex_long : (t : List ℕ) → is_hex t ≡ true → 2 ≤ length t
+unfolding is_hex any_of
+hex_long t e = either (begins t _) _ (λ h. begins_long _ t h) (λ k. either (begins t _) _ (λ h. begins_long _ t h) (λ z. absurd (false≢true z)) k) e

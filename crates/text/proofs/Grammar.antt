@@ -1,56 +1,55 @@
 -- Laws of the grammar of UTF-8 (RFC 3629, section 4): rows of ranges, characters, runs of characters.
 -- Assumes nothing.
-use Rattle.std.specs.Prelude.{◌≡◌, ℕ, zero, suc, ◌+◌, ◌<◌, ◌≤◌, Bool, true, false, cond, ◌&&◌, List, [], ◌∷◌, ◌++◌, length, get_or, drop}
+use Rattle.std.specs.Prelude.{◌≡◌, ℕ, zero, suc, ◌+◌, ◌-◌, ◌<◌, ◌≤◌, Bool, true, false, cond, ◌&&◌, List, [], ◌∷◌, length, get_or, take, drop, leb}
 use mathlib.Core.Path.{refl, sym, ap, ◌∙◌}
-use mathlib.Core.Bool.{false≢true, and-true, and_assoc}
+use mathlib.Core.Bool.{false≢true}
 use Prim.Native.Nat.{zero-le, suc-le-suc}
 use native.Mathlib.Nat.{not-suc-le-zero, le_of_suc-le-suc}
 use native.Mathlib.Omega.{arith}
-use borrow.Author.Tests.{le-leb}
-use lib.ListN.{length-drop, drop_of_length-le}
-use lib.Seq.{drop-cons, drop-drop}
+use lib.ListN.{length-take}
 use Rattle.text.specs.Utf8.{Range, ◌–◌, within, begins, any_of, utf8_1, utf8_2, utf8_3, utf8_4, utf8_char, first_of, char_len, octets}
-use Rattle.text.proofs.Tests.{both, either, last}
+use Rattle.text.proofs.Tests.{both, either, last, behind}
 
--- ---- rows of ranges, at a place of a list
+-- ---- rows of ranges
 
--- past the end
-pub begins_past : (r : Range) (rs : List Range) (s : List ℕ) (i : ℕ) → length s ≤ i → begins (drop i s) (r ∷ rs) ≡ false
-unfolding begins
-begins_past r rs s i h = ap (λ (l : List ℕ). begins l (r ∷ rs)) (drop_of_length-le s h)
+-- a row, by the octets of the list
+module _ (a : Range) where
+  pub begins_1 : (s : List ℕ) → begins s (a ∷ []) ≡ leb 1 (length s) && within (get_or s 0 0) a
+  unfolding begins
+  begins_1 [] = refl
+  begins_1 (x ∷ s) = grind arith
 
--- one octet
-pub begins_at : (r : Range) (s : List ℕ) (i : ℕ) → i < length s → begins (drop i s) (r ∷ []) ≡ within (get_or s i 0) r
-unfolding begins
-begins_at r s i h = ap (λ (l : List ℕ). begins l (r ∷ [])) (drop-cons s i 0 h) ∙ and-true (within (get_or s i 0) r)
+  module _ (b : Range) where
+    pub begins_2 : (s : List ℕ) → begins s (a ∷ b ∷ []) ≡ leb 2 (length s) && (within (get_or s 0 0) a && within (get_or s 1 0) b)
+    unfolding begins
+    begins_2 [] = refl
+    begins_2 (x ∷ []) = grind arith
+    begins_2 (x ∷ y ∷ s) = grind arith
 
--- a row is its front and, behind that, its rest
-begins_append : (a b : List Range) (s : List ℕ) → begins s (a ++ b) ≡ begins s a && begins (drop (length a) s) b
-unfolding begins
-begins_append [] b s = refl
-begins_append (r ∷ a) b [] = refl
-begins_append (r ∷ a) b (x ∷ s) = ap (λ (t : Bool). within x r && t) (begins_append a b s) ∙ sym (and_assoc (within x r) (begins s a) (begins (drop (length a) s) b))
+    module _ (c : Range) where
+      pub begins_3 : (s : List ℕ) → begins s (a ∷ b ∷ c ∷ []) ≡ leb 3 (length s) && (within (get_or s 0 0) a && (within (get_or s 1 0) b && within (get_or s 2 0) c))
+      unfolding begins
+      begins_3 [] = refl
+      begins_3 (x ∷ []) = grind arith
+      begins_3 (x ∷ y ∷ []) = grind arith
+      begins_3 (x ∷ y ∷ z ∷ s) = grind arith
 
-begins_long : (rs : List Range) (s : List ℕ) → begins s rs ≡ true → length rs ≤ length s
+      pub begins_4 : (d : Range) (s : List ℕ)
+          → begins s (a ∷ b ∷ c ∷ d ∷ []) ≡ leb 4 (length s) && (within (get_or s 0 0) a && (within (get_or s 1 0) b && (within (get_or s 2 0) c && within (get_or s 3 0) d)))
+      unfolding begins
+      begins_4 d [] = refl
+      begins_4 d (x ∷ []) = grind arith
+      begins_4 d (x ∷ y ∷ []) = grind arith
+      begins_4 d (x ∷ y ∷ z ∷ []) = grind arith
+      begins_4 d (x ∷ y ∷ z ∷ w ∷ s) = grind arith
+
+pub ruleset rows = (begins_1, begins_2, begins_3, begins_4)
+
+pub begins_long : (rs : List Range) (s : List ℕ) → begins s rs ≡ true → length rs ≤ length s
 unfolding begins
 begins_long [] s e = zero-le
 begins_long (r ∷ rs) [] e = absurd (false≢true e)
 begins_long (r ∷ rs) (b ∷ s) e = suc-le-suc (begins_long rs s (both (within b r) (begins s rs) e).1)
-
--- a row that was tried in two parts, the front first: t is what the front's test gave
-module _ (a b : List Range) (s : List ℕ) (i : ℕ) where
-  split : begins (drop i s) (a ++ b) ≡ begins (drop i s) a && begins (drop (i + length a) s) b
-  split = begins_append a b (drop i s) ∙ ap (λ (l : List ℕ). begins (drop i s) a && begins l b) (drop-drop (length a) i s)
-
-  pub rest : {r t : Bool} → t ≡ begins (drop i s) a → t ≡ true → r ≡ begins (drop (i + length a) s) b → r ≡ begins (drop i s) (a ++ b)
-  rest e h k = rw (split, ← e, h) k
-
-  pub none : {t : Bool} → t ≡ begins (drop i s) a → t ≡ false → false ≡ begins (drop i s) (a ++ b)
-  none e h = rw (split, ← e, h)
-
--- where a row was found, there is room for it
-pub room : (r : Range) (rs : List Range) (s : List ℕ) (i : ℕ) {t : Bool} → t ≡ begins (drop i s) (r ∷ rs) → t ≡ true → i + length (r ∷ rs) ≤ length s
-room r rs s i e h = omega (arith, begins_long (r ∷ rs) (drop i s) (sym e ∙ h), length-drop i s)
 
 -- ---- characters, by the rules tried one after another
 
@@ -105,6 +104,10 @@ pub char_len_le : (s : List ℕ) → char_len s ≤ length s
 unfolding char_len
 char_len_le s = rules_long 1 0 utf8_char s rules_in
 
+-- the octets of a character
+pub char_long : (s : List ℕ) → length (take (char_len s) s) ≡ char_len s
+char_long s = omega (arith, char_len_le s, length-take (char_len s) s)
+
 rules_few : (n : ℕ) (g : List (List (List Range))) (s : List ℕ) → first_of (suc n) g s ≤ n + length g
 unfolding first_of
 rules_few n [] s = zero-le
@@ -117,11 +120,6 @@ rules_few n (rows ∷ more) s = go (any_of (begins s) rows) (rules_few (suc n) m
 pub char_len_four : (s : List ℕ) → char_len s ≤ 4
 unfolding char_len utf8_char
 char_len_four s = rules_few 0 utf8_char s
-
--- an octet under 128 is a character by itself
-ascii : (b : ℕ) (s : List ℕ) → b < 128 → char_len (b ∷ s) ≡ 1
-unfolding char_len utf8_char utf8_1 first_of any_of begins
-ascii b s h = rw (le-leb 0 b zero-le, le-leb b 0x7F (omega arith))
 
 -- ---- runs of characters
 
@@ -142,21 +140,32 @@ unfolding octets
 no_char [] h e = absurd (not-suc-le-zero h)
 no_char (b ∷ s) h e = rw (e, octets)
 
--- at a place of a list: the end, no character, a character of n octets
-module _ (s : List ℕ) (i : ℕ) where
-  pub ended : length s ≤ i → octets 0 (drop i s) ≡ true
+-- a list that has come to its end, one with no character, one with a character of n octets
+module _ (s : List ℕ) where
+  pub ended : length s ≡ 0 → octets 0 s ≡ true
   unfolding octets
-  ended h = ap (octets 0) (drop_of_length-le s h)
+  ended h = go s h
+    where
+      go : (s : List ℕ) → length s ≡ 0 → octets 0 s ≡ true
+      go [] h = refl
+      go (b ∷ s) h = absurd (omega arith)
 
-  pub stops : i < length s → char_len (drop i s) ≡ 0 → octets 0 (drop i s) ≡ false
-  stops h e = no_char (drop i s) (rw length-drop (omega arith)) e
-
-  pub goes : (n : ℕ) → n ≡ char_len (drop i s) → (n ≡ 0 → ⊥) → octets 0 (drop (i + n) s) ≡ octets 0 (drop i s)
+  pub goes : (n : ℕ) → n ≡ char_len s → (n ≡ 0 → ⊥) → octets 0 (drop n s) ≡ octets 0 s
   goes zero e h = absurd (h refl)
-  goes (suc k) e h = ap (octets 0) (sym (drop-drop (suc k) i s)) ∙ sym (char (drop i s) k (sym e))
+  goes (suc k) e h = sym (char s k (sym e))
 
-  pub fits_in : (n : ℕ) → i ≤ length s → n ≡ char_len (drop i s) → i + n ≤ length s
-  fits_in n h e = omega (arith, char_len_le (drop i s), length-drop i s, e)
+-- a character of one octet, and one of several
+module _ (s : List ℕ) where
+  one : {t : Bool} → t ≡ any_of (begins s) utf8_1 → t ≡ true → 1 ≡ char_len s
+  unfolding char_len utf8_char
+  one e h = rule_hit 1 utf8_1 (utf8_2 ∷ utf8_3 ∷ utf8_4 ∷ []) s e h
 
-  pub one : i < length s → get_or s i 0 < 128 → 1 ≡ char_len (drop i s)
-  one h k = sym (ap char_len (drop-cons s i 0 h) ∙ ascii (get_or s i 0) _ k)
+  pub one_long : {t : Bool} → t ≡ any_of (begins s) utf8_1 → t ≡ true → 1 ≤ length s
+  one_long e h = omega (arith, one e h, char_len_le s)
+
+  pub one_goes : {t : Bool} → t ≡ any_of (begins s) utf8_1 → t ≡ true → octets 0 (take (length s - 1) (drop 1 s)) ≡ octets 0 s
+  one_goes e h = ap (octets 0) (behind 1 s) ∙ sym (char s 0 (sym (one e h)))
+
+  pub long : (n : ℕ) → n ≡ first_of 2 (utf8_2 ∷ utf8_3 ∷ utf8_4 ∷ []) s → any_of (begins s) utf8_1 ≡ false → n ≡ char_len s
+  unfolding char_len utf8_char
+  long n e h = rule_miss 1 utf8_1 (utf8_2 ∷ utf8_3 ∷ utf8_4 ∷ []) s refl h e

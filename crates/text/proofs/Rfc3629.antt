@@ -8,8 +8,9 @@ use native.Mathlib.Omega.{arith}
 use borrow.Author.Tests.{leb-true}
 use lib.ListN.{length-drop, take-append-drop}
 use lib.Seq.{drop-append_seam}
+use Rattle.std.proofs.lemmas.Bool.{and_parts, or_right}
 use Rattle.text.specs.Utf8.{Range, ◌–◌, within, begins, any_of, utf8_char, first_of, char_len, octets, is_utf8, fits, is_char, Octets, empty, one_more}
-use Rattle.text.proofs.Tests.{both, either, or_right}
+use Rattle.text.proofs.Tests.{either}
 use Rattle.text.proofs.Grammar.{RowsIn, RulesIn, rules_in, char, no_char}
 
 -- ---- a row, in front of more octets
@@ -20,7 +21,7 @@ fits_begins [] t [] e = (refl, refl)
 fits_begins [] t (r ∷ row) e = absurd (false≢true e)
 fits_begins (b ∷ c) t [] e = absurd (false≢true e)
 fits_begins (b ∷ c) t (r ∷ row) e =
-    let f = both (within b r) (fits c row) e in
+    let f = and_parts (within b r) (fits c row) e in
     let k = fits_begins c t row f.1 in
     (ap suc k.0, rw f.0 k.1)
 
@@ -29,7 +30,7 @@ unfolding fits begins
 begins_fits s [] e = refl
 begins_fits [] (r ∷ row) e = absurd (false≢true e)
 begins_fits (b ∷ s) (r ∷ row) e =
-    let f = both (within b r) (begins s row) e in
+    let f = and_parts (within b r) (begins s row) e in
     rw f.0 (begins_fits s row f.1)
 
 -- ---- a rule
@@ -44,7 +45,7 @@ module _ (n lo hi : ℕ) where
       go : (s : List ℕ) → begins s (a – b ∷ row) ≡ true → (lo ≤ get_or s 0 0) × (get_or s 0 0 ≤ hi)
       go [] q = absurd (false≢true q)
       go (x ∷ s) q =
-          let f = both (leb a x) (leb x b) (both (within x (a – b)) (begins s row) q).0 in
+          let f = and_parts (leb a x) (leb x b) (and_parts (within x (a – b)) (begins s row) q).0 in
           omega (arith, leb-true a x f.0, leb-true x b f.1)
 
   any_begins : (rows : List (List Range)) (c t : List ℕ) → RowsIn n lo hi rows → any_of (fits c) rows ≡ true → (length c ≡ n) × (any_of (begins (c ++ t)) rows ≡ true)
@@ -54,7 +55,7 @@ module _ (n lo hi : ℕ) where
   any_begins ((a – b ∷ row) ∷ rows) c t h e =
       either (fits c (a – b ∷ row)) (any_of (fits c) rows)
       (λ q. let k = fits_begins c t (a – b ∷ row) q in (k.0 ∙ h.0, rw k.1))
-      (λ q. let k = any_begins rows c t h.3 q in (k.0, or_right (begins (c ++ t) (a – b ∷ row)) k.1))
+      (λ q. let k = any_begins rows c t h.3 q in (k.0, or_right (begins (c ++ t) (a – b ∷ row)) _ k.1))
       e
 
   any_fits : (rows : List (List Range)) (s : List ℕ) → RowsIn n lo hi rows → any_of (begins s) rows ≡ true → any_of (fits (take n s)) rows ≡ true
@@ -64,7 +65,7 @@ module _ (n lo hi : ℕ) where
   any_fits ((a – b ∷ row) ∷ rows) s h e =
       either (begins s (a – b ∷ row)) (any_of (begins s) rows)
       (λ q. rw (subst (λ (m : ℕ). fits (take m s) (a – b ∷ row) ≡ true) h.0 (begins_fits s (a – b ∷ row) q)))
-      (λ q. or_right (fits (take n s) (a – b ∷ row)) (any_fits rows s h.3 q))
+      (λ q. or_right (fits (take n s) (a – b ∷ row)) _ (any_fits rows s h.3 q))
       e
 
 -- ---- the rules
@@ -99,7 +100,7 @@ stands n lo (rows ∷ more) s h e = go (any_of (begins s) rows) refl (stands (su
         → (cond x n (first_of (suc n) more s) ≡ 0 → ⊥)
         → any_of (fits (take (cond x n (first_of (suc n) more s)) s)) rows || any_of (any_of (fits (take (cond x n (first_of (suc n) more s)) s))) more ≡ true
     go true q k l = rw (any_fits n lo h.0 rows s h.2 q)
-    go false q k l = or_right (any_of (fits (take (first_of (suc n) more s) s)) rows) (k l)
+    go false q k l = or_right (any_of (fits (take (first_of (suc n) more s) s)) rows) _ (k l)
 
 -- ---- UTF8-octets
 

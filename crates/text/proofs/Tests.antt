@@ -1,8 +1,10 @@
 -- Laws of tests: two that are joined, alternatives that are tried one after another, a front of a list that a test ends.
 -- Assumes nothing.
-use Rattle.std.specs.Prelude.{◌≡◌, ℕ, Bool, true, false, cond, ◌&&◌, ◌||◌, List, [], ◌∷◌, length, take}
+use Rattle.std.specs.Prelude.{◌≡◌, ℕ, Bool, true, false, cond, ◌&&◌, ◌||◌, ◌-◌, List, [], ◌∷◌, length, take, drop}
 use mathlib.Core.Path.{refl, sym, ap, ◌∙◌}
 use mathlib.Core.Bool.{false≢true, or-false}
+use lib.ListN.{length-drop}
+use lib.Seq.{take-length}
 use Rattle.text.specs.Utf8.{any_of}
 
 -- ---- tests that are joined by && and ||
@@ -14,10 +16,6 @@ both false y e = absurd (false≢true e)
 pub either : (x y : Bool) {P : Type 0} → (x ≡ true → P) → (y ≡ true → P) → x || y ≡ true → P
 either true y f g e = f refl
 either false y f g e = g e
-
-pub or_right : (x : Bool) {y : Bool} → y ≡ true → x || y ≡ true
-or_right true e = refl
-or_right false e = e
 
 -- ---- alternatives, tried one after another: t is what the test of the first one gave
 
@@ -34,10 +32,12 @@ module _ {A : Type 0} (p : A → Bool) (x : A) where
   unfolding any_of
   last e = e ∙ sym (or-false (p x))
 
-pub ruleset tried = (hit, miss, last)
-
 -- ---- a front of a list, which ends before b where the test t holds
 
 pub front : (t : Bool) (b : ℕ) (l : List ℕ) {x : List ℕ} → x ≡ take (length x) l → cond t [] (b ∷ x) ≡ take (length (cond t [] (b ∷ x))) (b ∷ l)
 front true b l e = refl
 front false b l e = ap (λ (y : List ℕ). b ∷ y) e
+
+-- what is left of a list behind its first n items
+pub behind : (n : ℕ) (s : List ℕ) → take (length s - n) (drop n s) ≡ drop n s
+behind n s = ap (λ (k : ℕ). take k (drop n s)) (sym (length-drop n s)) ∙ take-length (drop n s)

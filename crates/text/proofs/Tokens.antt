@@ -1,19 +1,20 @@
 -- Laws of runs, tokens and comparisons. Exported for the crates above: `until_length`, `until_take`, `tokens_from`,
 -- `place_bounds`, `same_equal`, `same_self`.
 -- Assumes nothing.
-use Rattle.std.specs.Prelude.{◌≡◌, ℕ, suc, ◌+◌, ◌<◌, ◌≤◌, Bool, true, false, cond, ◌&&◌, eqb, ltb, List, [], ◌∷◌, length, get_or, take, drop}
-use mathlib.Core.Path.{refl, sym, ap, ap₂, ◌∙◌}
+use Rattle.std.specs.Prelude.{◌≡◌, ℕ, suc, ◌+◌, ◌-◌, ◌<◌, ◌≤◌, Bool, true, false, not, cond, ◌&&◌, eqb, ltb, List, [], ◌∷◌, length, take, drop, None, Some}
+use mathlib.Core.Path.{refl, ap, ap₂, ◌∙◌}
 use mathlib.Core.Bool.{false≢true}
-use native.Mathlib.Nat.{not-suc-le-zero, le_of_suc-le-suc}
-use native.Mathlib.Numerals.{add-one}
 use native.Mathlib.Omega.{arith}
-use borrow.Author.Tests.{lt-ltb, le-ltb, ltb-true, ltb-false, eq-eqb, ne_eqb, eqb-true}
+use borrow.Author.Tests.{lt-ltb, le-ltb, ltb-true, ltb-false, eq-eqb, eqb-true}
 use lib.Dec.{leb-suc-suc}
-use lib.ListN.{length-take, length-drop, drop_of_length-le}
-use lib.Seq.{drop-cons, drop-drop}
+use lib.ListN.{length-take, length-drop}
+use lib.Pointwise.{pointwise}
+use lib.Seq.{drop-drop}
+use Rattle.std.specs.List.{position_or_len}
+use Rattle.std.proofs.lemmas.Bool.{and_parts}
+use Rattle.std.proofs.lemmas.Bool.Decides.{nat_tests}
 use Rattle.text.specs.Token.{until, token_end, place_after, on_first, tokens_of, rest_of, starts_with, same}
-use Rattle.text.specs.declared.token.Place.TheVariants.{At, Done}
-use Rattle.text.proofs.Tests.{both, front}
+use Rattle.text.proofs.Tests.{front}
 
 -- ---- runs
 
@@ -27,23 +28,21 @@ module _ (stop : ℕ) where
   pub until_length : (s : List ℕ) → length (until stop s) ≤ length s
   until_length s = omega (arith, ap length (until_take s), length-take (length (until stop s)) s)
 
-  -- at a place of a list: the end, the byte that stops the run, another byte
-  module _ (s : List ℕ) (i : ℕ) where
-    pub past : length s ≤ i → until stop (drop i s) ≡ []
-    unfolding until
-    past h = ap (until stop) (drop_of_length-le s h)
+  pub until_drop : (at : ℕ) (s : List ℕ) → length (until stop (drop at s)) ≤ length s - at
+  until_drop at s = omega (arith, until_length (drop at s), length-drop at s)
 
-    pub here : i < length s → get_or s i 0 ≡ stop → until stop (drop i s) ≡ []
-    unfolding until
-    here h e = rw (drop-cons s i 0, until, eq-eqb (get_or s i 0) stop e)
-
-    pub on : i < length s → (get_or s i 0 ≡ stop → ⊥) → until stop (drop i s) ≡ get_or s i 0 ∷ until stop (drop (i + 1) s)
-    unfolding until
-    on h e = rw (add-one, drop-cons s i 0, until, ne_eqb (get_or s i 0) stop e)
-
--- a part that is as long as the run is the run
-pub cut : (stop : ℕ) (s : List ℕ) (n : ℕ) → n ≡ length (until stop s) → take n s ≡ until stop s
-cut stop s n e = ap (λ (k : ℕ). take k s) e ∙ sym (until_take stop s)
+  -- a run in std's words
+  pub until_is : (s : List ℕ) → take (position_or_len (λ b. eqb b stop) s) s ≡ until stop s
+  unfolding until
+  until_is [] = refl
+  until_is (b ∷ s) = go (eqb b stop) (until_is s)
+    where
+      go : (t : Bool) → take (position_or_len (λ b. eqb b stop) s) s ≡ until stop s
+          → take (cond (not t) (1 + position_or_len (λ b. eqb b stop) s) 0) (b ∷ s) ≡ cond t [] (b ∷ until stop s)
+      go true h = refl
+      go false h =
+          let one : 1 + position_or_len (λ b. eqb b stop) s ≡ suc (position_or_len (λ b. eqb b stop) s) = omega arith in
+          rw (one, h)
 
 -- ---- tokens
 
@@ -65,11 +64,11 @@ first (b ∷ s) = go (eqb b 0x20) (first s)
 
 module _ (line : List ℕ) (at : ℕ) where
   -- where the line has its next token, with e for the end of the token at a place
-  pub place_at : {e : ℕ} → e ≡ token_end line at → e < length line → At (e + 1) ≡ place_after line at
+  pub place_at : {e : ℕ} → e ≡ token_end line at → e < length line → Some (e + 1) ≡ place_after line at
   unfolding place_after
   place_at q h = rw (← q, lt-ltb _ (length line) h)
 
-  pub place_done : {e : ℕ} → e ≡ token_end line at → length line ≤ e → Done ≡ place_after line at
+  pub place_done : {e : ℕ} → e ≡ token_end line at → length line ≤ e → None ≡ place_after line at
   unfolding place_after
   place_done q h = rw (← q, le-ltb _ (length line) h)
 
@@ -85,7 +84,7 @@ module _ (line : List ℕ) (at : ℕ) where
 
       go : (t : Bool) → ltb (at + u) (length line) ≡ t
           → cond (ltb u (length (drop at line))) (tokens_of (drop (suc u) (drop at line))) []
-          ≡ rest_of line (cond t (At (at + u + 1)) Done)
+          ≡ rest_of line (cond t (Some (at + u + 1)) None)
       go true e =
           rw (lt-ltb u (length (drop at line)) (omega (arith, ltb-true, length-drop at line)))
           (ap tokens_of (drop-drop (suc u) at line ∙ ap (λ (n : ℕ). drop n line) past_space))
@@ -96,47 +95,32 @@ module _ (line : List ℕ) (at : ℕ) where
   tokens_from = first (drop at line) ∙ ap (λ (ts : List (List ℕ)). until 0x20 (drop at line) ∷ ts) behind_is
 
   -- the next place lies further on, and within the line
-  pub place_bounds : (p : ℕ) → place_after line at ≡ At p → (at < p) × (p ≤ length line)
+  pub place_bounds : (p : ℕ) → place_after line at ≡ Some p → (at < p) × (p ≤ length line)
   unfolding place_after
   place_bounds p = go (ltb (token_end line at) (length line)) refl
     where
-      go : (t : Bool) → ltb (token_end line at) (length line) ≡ t → cond t (At (token_end line at + 1)) Done ≡ At p → (at < p) × (p ≤ length line)
+      go : (t : Bool) → ltb (token_end line at) (length line) ≡ t → cond t (Some (token_end line at + 1)) None ≡ Some p → (at < p) × (p ≤ length line)
       go true e h = let q : token_end line at + 1 ≡ p = cc in omega (arith, ltb-true)
       go false e h = let z : ◌≡◌ {A = ℕ} 0 1 = cc in omega arith
 
 -- ---- comparisons
 
-pub starts_short : (s f : List ℕ) → length s < length f → starts_with s f ≡ false
+-- `same` and `starts_with` in std's words
+pub same_is : (a b : List ℕ) → pointwise eqb a b ≡ same a b
+unfolding same
+same_is [] [] = refl
+same_is [] (y ∷ b) = refl
+same_is (x ∷ a) [] = refl
+same_is (x ∷ a) (y ∷ b) = ap (λ (t : Bool). eqb x y && t) (same_is a b)
+
+swap : (a b : ℕ) → eqb a b ≡ eqb b a
+swap a b = grind (arith, nat_tests)
+
+pub starts_is : (s f : List ℕ) → pointwise eqb f (take (length f) s) ≡ starts_with s f
 unfolding starts_with
-starts_short s [] h = absurd (not-suc-le-zero h)
-starts_short [] (b ∷ f) h = refl
-starts_short (a ∷ s) (b ∷ f) h = go (eqb a b) (starts_short s f (le_of_suc-le-suc h))
-  where
-    go : (t : Bool) {x : Bool} → x ≡ false → t && x ≡ false
-    go true e = e
-    go false e = refl
-
--- at a place of both texts: the second's end, another byte, the same byte
-module _ (s f : List ℕ) (i : ℕ) where
-  pub starts_end : length f ≤ i → starts_with (drop i s) (drop i f) ≡ true
-  unfolding starts_with
-  starts_end h = ap (starts_with (drop i s)) (drop_of_length-le f h)
-
-  pub starts_unlike : i < length s → i < length f → (get_or s i 0 ≡ get_or f i 0 → ⊥) → starts_with (drop i s) (drop i f) ≡ false
-  unfolding starts_with
-  starts_unlike h k e = rw (drop-cons s i 0, drop-cons f i 0, starts_with, ne_eqb (get_or s i 0) (get_or f i 0) e)
-
-  pub starts_like : i < length s → i < length f → get_or s i 0 ≡ get_or f i 0 → starts_with (drop (i + 1) s) (drop (i + 1) f) ≡ starts_with (drop i s) (drop i f)
-  unfolding starts_with
-  starts_like h k e = rw (add-one, drop-cons s i 0, drop-cons f i 0, starts_with, eq-eqb (get_or s i 0) (get_or f i 0) e)
-
--- texts of one length are equal where one begins with the other
-pub same_starts : (a b : List ℕ) → length a ≡ length b → starts_with a b ≡ same a b
-unfolding starts_with same
-same_starts [] [] h = refl
-same_starts [] (y ∷ b) h = absurd (omega arith)
-same_starts (x ∷ a) [] h = absurd (omega arith)
-same_starts (x ∷ a) (y ∷ b) h = ap (λ (t : Bool). eqb x y && t) (same_starts a b (omega arith))
+starts_is s [] = refl
+starts_is [] (b ∷ f) = refl
+starts_is (a ∷ s) (b ∷ f) = ap₂ (λ (t u : Bool). t && u) (swap b a) (starts_is s f)
 
 -- `same` says that they are equal
 pub same_equal : (a b : List ℕ) → same a b ≡ true → a ≡ b
@@ -145,17 +129,10 @@ same_equal [] [] e = refl
 same_equal [] (y ∷ b) e = absurd (false≢true e)
 same_equal (x ∷ a) [] e = absurd (false≢true e)
 same_equal (x ∷ a) (y ∷ b) e =
-    let f = both (eqb x y) (same a b) e in
+    let f = and_parts (eqb x y) (same a b) e in
     ap₂ (λ (u : ℕ) (v : List ℕ). u ∷ v) (eqb-true x y f.0) (same_equal a b f.1)
 
 pub same_self : (a : List ℕ) → same a a ≡ true
 unfolding same
 same_self [] = refl
 same_self (x ∷ a) = rw (eq-eqb x x refl) (same_self a)
-
-pub same_unlike : (a b : List ℕ) → (length a ≡ length b → ⊥) → same a b ≡ false
-same_unlike a b h = go (same a b) refl
-  where
-    go : (t : Bool) → same a b ≡ t → t ≡ false
-    go true e = absurd (h (ap length (same_equal a b e)))
-    go false e = refl

@@ -1,60 +1,43 @@
 -- Laws of trimming: one white space, white space at the start, the text up to the white space at its end.
--- Lengths say where the code's parts begin and end, so most laws are equations of lengths. Exported: `trim_length`.
+-- Lengths say where the code's parts begin and end, so most laws are equations of lengths.
 -- Assumes nothing.
-use Rattle.std.specs.Prelude.{◌≡◌, ℕ, zero, suc, pred, ◌+◌, ◌-◌, ◌%◌, ◌<◌, ◌≤◌, Bool, true, false, cond, List, [], ◌∷◌, length, get_or, take, drop}
+use Rattle.std.specs.Prelude.{◌≡◌, ℕ, zero, suc, pred, ◌+◌, ◌-◌, ◌<◌, ◌≤◌, Bool, true, false, cond, List, [], ◌∷◌, length, take, drop}
 use mathlib.Core.Path.{refl, sym, ap, ◌∙◌}
 use mathlib.Core.Bool.{true≢false}
 use Prim.Native.Nat.{zero-le}
-use native.Mathlib.Nat.{le_of_suc-le-suc, not-suc-le-zero, le_refl, add-zero, sub_self}
+use native.Mathlib.Nat.{le_of_suc-le-suc, not-suc-le-zero, le_refl, sub_self}
 use native.Mathlib.Omega.{arith}
-use lib.ListN.{length-take, length-drop, drop_of_length-le}
-use lib.Seq.{drop-drop, get_or-drop}
+use lib.ListN.{length-drop}
 use Rattle.text.specs.Utf8.{within, any_of, char_len}
-use Rattle.text.specs.Trim.{white_space, ◌⊳◌, code_point, blank_len, lead, trim_start, is_nil, keep, trim_end, trim}
+use Rattle.text.specs.Trim.{white_space, code_point, blank_len, lead, trim_start, is_nil, keep, trim_end, trim}
 use Rattle.text.proofs.Tests.{front}
 use Rattle.text.proofs.Grammar.{char_len_le}
 
 -- ---- code points, by the number of octets
 
-module _ (s : List ℕ) (i n : ℕ) where
-  pub point_1 : n ≡ 1 → get_or s i 0 % 128 ≡ code_point n (drop i s)
-  unfolding code_point
-  point_1 h = rw h (simp (get_or-drop, add-zero))
-
-  pub point_2 : {u : ℕ} → n ≡ 2 → u ≡ get_or s i 0 % 32 ⊳ get_or s (i + 1) 0 → u ≡ code_point n (drop i s)
-  unfolding code_point
-  point_2 h p = p ∙ rw h (simp (get_or-drop, add-zero))
-
-  pub point_3 : {u v : ℕ} → n ≡ 3 → u ≡ get_or s i 0 % 16 ⊳ get_or s (i + 1) 0 → v ≡ u ⊳ get_or s (i + 2) 0 → v ≡ code_point n (drop i s)
-  unfolding code_point
-  point_3 h p q = q ∙ rw (h, p) (simp (get_or-drop, add-zero))
-
-  pub point_4 : {u v w : ℕ} → n ≡ 4 → u ≡ get_or s i 0 % 8 ⊳ get_or s (i + 1) 0 → v ≡ u ⊳ get_or s (i + 2) 0 → w ≡ v ⊳ get_or s (i + 3) 0 → w ≡ code_point n (drop i s)
-  unfolding code_point
-  point_4 h p q r = r ∙ rw (h, q, p) (simp (get_or-drop, add-zero))
+-- the octets of a character, and what is behind them
+pub point_take : (n : ℕ) (s : List ℕ) → 1 ≤ n → n ≤ 4 → n ≤ length s → code_point (length (take n s)) (take n s) ≡ code_point n s
+unfolding code_point
+point_take zero s l m h = absurd (omega arith)
+point_take (suc zero) [] l m h = absurd (omega arith)
+point_take (suc zero) (a ∷ s) l m h = refl
+point_take (suc (suc zero)) [] l m h = absurd (omega arith)
+point_take (suc (suc zero)) (a ∷ []) l m h = absurd (omega arith)
+point_take (suc (suc zero)) (a ∷ b ∷ s) l m h = refl
+point_take (suc (suc (suc zero))) [] l m h = absurd (omega arith)
+point_take (suc (suc (suc zero))) (a ∷ []) l m h = absurd (omega arith)
+point_take (suc (suc (suc zero))) (a ∷ b ∷ []) l m h = absurd (omega arith)
+point_take (suc (suc (suc zero))) (a ∷ b ∷ c ∷ s) l m h = refl
+point_take (suc (suc (suc (suc zero)))) [] l m h = absurd (omega arith)
+point_take (suc (suc (suc (suc zero)))) (a ∷ []) l m h = absurd (omega arith)
+point_take (suc (suc (suc (suc zero)))) (a ∷ b ∷ []) l m h = absurd (omega arith)
+point_take (suc (suc (suc (suc zero)))) (a ∷ b ∷ c ∷ []) l m h = absurd (omega arith)
+point_take (suc (suc (suc (suc zero)))) (a ∷ b ∷ c ∷ d ∷ s) l m h = refl
+point_take (suc (suc (suc (suc (suc n))))) s l m h = absurd (omega arith)
 
 -- ---- one white space
 
 module _ (s : List ℕ) where
-  -- what was measured as n octets, decoded to p, and tested with the answer t
-  measured : {n p : ℕ} {t : Bool} → n ≡ char_len s → p ≡ code_point n s → t ≡ any_of (within p) white_space → cond t n 0 ≡ blank_len s
-  unfolding blank_len
-  measured e f g = rw (g, f, e)
-
-  pub blank_none : {n : ℕ} → n ≡ char_len s → n ≡ 0 → 0 ≡ blank_len s
-  unfolding blank_len
-  blank_none e h = go (any_of (within (code_point (char_len s) s)) white_space)
-    where
-      go : (t : Bool) → 0 ≡ cond t (char_len s) 0
-      go true = sym h ∙ e
-      go false = refl
-
-  pub blank_yes : {n p : ℕ} {t : Bool} → n ≡ char_len s → p ≡ code_point n s → t ≡ any_of (within p) white_space → t ≡ true → n ≡ blank_len s
-  blank_yes e f g h = measured e f (sym h ∙ g)
-
-  pub blank_no : {n p : ℕ} {t : Bool} → n ≡ char_len s → p ≡ code_point n s → t ≡ any_of (within p) white_space → t ≡ false → 0 ≡ blank_len s
-  blank_no e f g h = measured e f (sym h ∙ g)
-
   -- a white space is a whole character
   blank_char : (k : ℕ) → blank_len s ≡ suc k → char_len s ≡ suc k
   unfolding blank_len
@@ -71,8 +54,6 @@ module _ (s : List ℕ) where
       go : (t : Bool) → cond t (char_len s) 0 ≤ length s
       go true = char_len_le s
       go false = zero-le
-
-pub ruleset blank = (blank_none, blank_yes, blank_no)
 
 -- ---- white space at the start
 
@@ -117,31 +98,28 @@ lead_left zero (b ∷ l) = go (blank_len (b ∷ l)) refl (λ k. lead_left k l)
     go zero e f = rw (lead_stop (b ∷ l) e) (left_here (b ∷ l) e)
     go (suc k) e f = rw (lead_in b l k e) (left_on b l (lead k l) (f k))
 
--- at a place of a list: no white space, white space of n octets, the end
-module _ (s : List ℕ) (i : ℕ) where
-  start_left : Left (drop i s) (trim_start (drop i s))
+-- no white space, and white space of n octets
+module _ (s : List ℕ) where
+  pub start_le : length (trim_start s) ≤ length s
   unfolding trim_start
-  start_left = lead_left 0 (drop i s)
+  start_le = (lead_left 0 s).shorter
 
-  pub start_le : length (trim_start (drop i s)) ≤ length s - i
-  start_le = omega (arith, start_left.shorter, length-drop i s)
-
-  pub start_stop : blank_len (drop i s) ≡ 0 → trim_start (drop i s) ≡ drop i s
+  pub start_bare : blank_len (trim_start s) ≡ 0
   unfolding trim_start
-  start_stop e = lead_stop (drop i s) e
+  start_bare = (lead_left 0 s).bare
 
-  pub start_on : (n : ℕ) → n ≡ blank_len (drop i s) → (n ≡ 0 → ⊥) → trim_start (drop (i + n) s) ≡ trim_start (drop i s)
+  pub start_stop : blank_len s ≡ 0 → trim_start s ≡ s
+  unfolding trim_start
+  start_stop e = lead_stop s e
+
+  pub start_on : (n : ℕ) → n ≡ blank_len s → (n ≡ 0 → ⊥) → trim_start (drop n s) ≡ trim_start s
   unfolding trim_start
   start_on zero e h = absurd (h refl)
-  start_on (suc k) e h = ap (lead 0) (sym (drop-drop (suc k) i s)) ∙ sym (on (drop i s) (sym e))
+  start_on (suc k) e h = sym (on s (sym e))
     where
       on : (l : List ℕ) → blank_len l ≡ suc k → lead 0 l ≡ lead 0 (drop (suc k) l)
       on [] e = refl
       on (b ∷ l) e = lead_in b l k e ∙ lead_pass k l
-
-  pub start_past : length s ≤ i → trim_start (drop i s) ≡ []
-  unfolding trim_start lead
-  start_past h = ap (lead 0) (drop_of_length-le s h)
 
 -- ---- the text up to the white space at its end
 
@@ -196,56 +174,33 @@ is_nil_long : (l : List ℕ) → 0 < length l → is_nil l ≡ false
 is_nil_long [] h = absurd (not-suc-le-zero h)
 is_nil_long (b ∷ l) h = refl
 
--- the white space from i on ends at p
-module _ (s : List ℕ) (i p : ℕ) (hi : i ≤ length s) (hp : p ≡ length s - length (trim_start (drop i s))) where
-  further : (i ≤ p) × (p ≤ length s)
-  further = omega (arith, start_le s i)
+-- x is the text r without the white space at its start
+module _ (r x : List ℕ) (q : x ≡ trim_start r) where
+  -- nothing follows it: nothing is kept
+  pub done : length x ≡ 0 → length (keep 0 r) ≡ 0
+  done h = ap length (keep_none r (is_nil_short (trim_start r) (ap length (sym q) ∙ h)))
 
-  there : trim_start (drop i s) ≡ drop p s
-  there = (start_left s i).behind ∙ drop-drop (length (drop i s) - length (trim_start (drop i s))) i s ∙ ap (λ (n : ℕ). drop n s) sum
-    where
-      sum : i + (length (drop i s) - length (trim_start (drop i s))) ≡ p
-      sum = omega (arith, start_le s i, length-drop i s)
-
-  -- nothing follows it
-  pub done : length s ≤ p → length (keep 0 (drop i s)) ≡ 0
-  done h = ap length (keep_none (drop i s) (is_nil_short (trim_start (drop i s)) (omega (arith, start_le s i))))
-
-  -- a character of m octets follows it, and both are kept
-  pub turn : (m : ℕ) → p < length s → m ≡ suc (pred (char_len (drop p s)))
-      → (i ≤ p) × (p + m ≤ length s) × (i + length (keep 0 (drop i s)) ≡ p + m + length (keep 0 (drop (p + m) s)))
+  -- a character of m octets follows it: both are kept
+  pub turn : (m : ℕ) → 0 < length x → m ≡ suc (pred (char_len x))
+      → (length x ≤ length r) × (m ≤ length x) × (length (keep 0 r) + length (drop m x) ≡ length r + length (keep 0 (drop m x)))
   unfolding trim_start
-  turn m h hm = (
-    further.0,
-    omega (arith, char_len_le (drop p s), length-drop p s),
-    omega (arith, run, one, ap length there, length-drop i s, length-drop p s, further),
+  turn m h e = (
+    omega (arith, start_le r, ap length q),
+    fits (char_len x) e (char_len_le x),
+    omega (arith, run, one, fits (char_len x) e (char_len_le x), length-drop m x),
   )
     where
-      left : 0 < length (drop p s)
-      left = omega (arith, length-drop p s)
+      fits : (n : ℕ) → m ≡ suc (pred n) → n ≤ length x → m ≤ length x
+      fits zero e l = omega arith
+      fits (suc n) e l = omega arith
 
-      run : length (keep 0 (drop i s)) + length (trim_start (drop i s)) ≡ length (drop i s) + length (keep 0 (drop p s))
-      run = keep_run 0 (drop i s) (is_nil_long (trim_start (drop i s)) (rw there left)) ∙ ap (λ (l : List ℕ). length (drop i s) + length (keep 0 l)) there
+      run : length (keep 0 r) + length x ≡ length r + length (keep 0 x)
+      run = rw q (keep_run 0 r (is_nil_long (trim_start r) (rw q at h)))
 
-      one : length (keep 0 (drop p s)) ≡ m + length (keep 0 (drop (p + m) s))
-      one =
-          keep_char (drop p s) m hm left (is_nil_long (trim_start (drop p s)) (rw (start_stop s p (rw there at (start_left s i).bare)) left))
-          ∙ ap (λ (l : List ℕ). m + length (keep 0 l)) (drop-drop m p s)
+      one : length (keep 0 x) ≡ m + length (keep 0 (drop m x))
+      one = keep_char x m e h (is_nil_long (trim_start x) (rw (start_stop x (rw q (start_bare r))) h))
 
--- a part from a to e, where a is behind the white space at the start, and nothing is kept from e on
-pub cut_out : (s : List ℕ) (a e : ℕ) → a ≡ length s - length (trim_start (drop 0 s))
-    → a + length (keep 0 (drop a s)) ≡ e + length (keep 0 (drop e s))
-    → length (keep 0 (drop e s)) ≡ 0
-    → take (e - a) (drop a s) ≡ trim s
+-- the front that is kept of the text behind the white space at its start
+pub cut_out : (s text : List ℕ) (e : ℕ) → text ≡ trim_start s → length (keep 0 text) ≡ e → take e text ≡ trim s
 unfolding trim trim_end
-cut_out s a e ha q h = ap (λ (n : ℕ). take n (drop a s)) count ∙ sym (keep_front 0 (drop a s)) ∙ ap (keep 0) (sym (there s 0 a zero-le ha))
-  where
-    count : e - a ≡ length (keep 0 (drop a s))
-    count = omega arith
-
--- ---- exported
-
--- what is trimmed is not longer
-pub trim_length : (s : List ℕ) → length (trim s) ≤ length s
-unfolding trim trim_end
-trim_length s = omega (arith, start_le s 0, ap length (keep_front 0 (trim_start s)), length-take (length (keep 0 (trim_start s))) (trim_start s))
+cut_out s text e q h = ap (λ (n : ℕ). take n text) (sym h) ∙ sym (keep_front 0 text) ∙ ap (keep 0) q

@@ -1,14 +1,12 @@
 -- Worked examples of the definitions, each by computing: line P12 of document 01, the edges of numbers, examples of RFC 3629,
 -- white space at both ends, and an empty token.
 -- Assumes nothing.
-use Rattle.std.specs.Prelude.{◌≡◌, true, false, [], ◌∷◌}
+use Rattle.std.specs.Prelude.{◌≡◌, true, false, [], ◌∷◌, None, Some}
 use Rattle.std.specs.Prelude.{refl}
 use Rattle.text.specs.Utf8.{begins, any_of, utf8_1, utf8_2, utf8_3, utf8_4, utf8_char, first_of, char_len, octets, is_utf8}
 use Rattle.text.specs.Trim.{white_space, code_point, blank_len, lead, trim_start, keep, trim_end, trim}
 use Rattle.text.specs.Number.{digit_of, digits, some, signed, is_hex, numeral, number_in}
 use Rattle.text.specs.Token.{until, place_after, tokens_of, ascii}
-use Rattle.text.specs.declared.number.Number.TheVariants.{Value, Bad}
-use Rattle.text.specs.declared.token.Place.TheVariants.{At, Done}
 
 -- ---- RFC 3629, sections 7 and 10
 
@@ -30,17 +28,17 @@ trim_both = refl
 
 -- ---- numbers
 
-pub p12 : number_in (ascii "0x+1F") ≡ Value 31
+pub p12 : number_in (ascii "0x+1F") ≡ Some 31
 unfolding begins any_of utf8_1 utf8_2 utf8_3 utf8_4 utf8_char first_of char_len white_space code_point blank_len lead trim_start keep trim_end trim digit_of digits some signed is_hex numeral number_in
 p12 = refl
 
 -- the largest number, one more, `+` alone, the sign on the wrong side of `0x`, and white space at both ends
 pub numbers :
-    (number_in (ascii "18446744073709551615") ≡ Value 18446744073709551615)
-    × (number_in (ascii "18446744073709551616") ≡ Bad)
-    × (number_in (ascii "+") ≡ Bad)
-    × (number_in (ascii "+0x1F") ≡ Bad)
-    × (number_in (ascii " 7 ") ≡ Value 7)
+    (number_in (ascii "18446744073709551615") ≡ Some 18446744073709551615)
+    × (number_in (ascii "18446744073709551616") ≡ None)
+    × (number_in (ascii "+") ≡ None)
+    × (number_in (ascii "+0x1F") ≡ None)
+    × (number_in (ascii " 7 ") ≡ Some 7)
 unfolding begins any_of utf8_1 utf8_2 utf8_3 utf8_4 utf8_char first_of char_len white_space code_point blank_len lead trim_start keep trim_end trim digit_of digits some signed is_hex numeral number_in
 numbers = (refl, refl, refl, refl, refl)
 
@@ -51,6 +49,6 @@ unfolding tokens_of
 empty_token = refl
 
 -- the same by the places that the caller keeps
-pub places : (place_after (ascii "a  b") 0 ≡ At 2) × (place_after (ascii "a  b") 2 ≡ At 3) × (place_after (ascii "a  b") 3 ≡ Done)
+pub places : (place_after (ascii "a  b") 0 ≡ Some 2) × (place_after (ascii "a  b") 2 ≡ Some 3) × (place_after (ascii "a  b") 3 ≡ None)
 unfolding until place_after
 places = (refl, refl, refl)

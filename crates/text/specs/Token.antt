@@ -2,11 +2,9 @@
 -- spaces, and a token may be empty. Rust's `line.split(' ')` gives the same list. Also the other parts of a text that end at a
 -- byte (the `;` and the zero byte of a partition field), and the comparisons of texts.
 -- Assumes nothing.
-use Rattle.std.specs.Prelude.{ℕ, ◌+◌, Bool, true, false, cond, ◌&&◌, List, [], ◌∷◌, length, drop, ◌==◌, nat_lt}
+use Rattle.std.specs.Prelude.{ℕ, ◌+◌, Bool, true, false, cond, ◌&&◌, List, [], ◌∷◌, length, drop, ◌==◌, nat_lt, Option, None, Some}
 use Prim.Native.Char.{code}
 use Prim.Native.String.{String, [] as []ˢ, ◌∷◌ as ◌∷ˢ◌}
-use Rattle.text.specs.declared.token.Place.{Place}
-use Rattle.text.specs.declared.token.Place.TheVariants.{At, Done}
 
 -- what stands before the first `stop`, or the whole where there is none
 unfoldable pub until : ℕ → List ℕ → List ℕ
@@ -18,8 +16,8 @@ abbrev pub token_end : List ℕ → ℕ → ℕ
 token_end line at = at + length (until 0x20 (drop at line))
 
 -- where the next token starts: past the space there, and nowhere at the line's end
-unfoldable pub place_after : List ℕ → ℕ → Place
-place_after line at = cond (nat_lt (token_end line at) (length line)) (At (token_end line at + 1)) Done
+unfoldable pub place_after : List ℕ → ℕ → Option ℕ
+place_after line at = cond (nat_lt (token_end line at) (length line)) (Some (token_end line at + 1)) None
 
 -- all tokens of a line
 abbrev pub on_first : ℕ → List (List ℕ) → List (List ℕ)
@@ -31,9 +29,9 @@ tokens_of [] = [] ∷ []
 tokens_of (b ∷ s) = cond (b == 0x20) ([] ∷ tokens_of s) (on_first b (tokens_of s))
 
 -- the tokens of a line from a place on
-unfoldable pub rest_of : List ℕ → Place → List (List ℕ)
-rest_of line (At p) = tokens_of (drop p line)
-rest_of line Done = []
+unfoldable pub rest_of : List ℕ → Option ℕ → List (List ℕ)
+rest_of line (Some p) = tokens_of (drop p line)
+rest_of line None = []
 
 -- the bytes of a text in ASCII, for definitions that name a word
 abbrev pub ascii : String → List ℕ

@@ -1,95 +1,76 @@
 // The number that a token of a shell line says: `number` of shell.rs, with `str::parse` and `u64::from_str_radix` behind it.
-ghost use Rattle.std.specs.Prelude.{◌≡◌, ◌≤◌, drop};
+ghost use Rattle.std.specs.Prelude.{◌≡◌, ◌≤◌};
 ghost use Rattle.text.specs.Number.{digit_of, digits, some, signed, is_hex, number_in};
 
-use crate::{trim, utf8};
+use crate::trim;
 
-// What a token says: a number below 2^64, or none.
-#[derive(Clone, Copy)]
-pub enum Number {
-    Value(u64),
-    Bad,
-}
-
-// The value of a digit, 0 to 15. It is 16 where the byte is no digit.
+// The value of a digit, 0 to 15. It is 16 where the byte is no digit, as the definition `digit_of` has it: one test against the base
+// refuses it too.
+#[tactic(auto, using(std::proofs::lemmas::Bool::Decides::nat_tests), unfolding(crate::specs::Number::digit_of))]
 fn digit_of(b: u8) -> u64
     ensures { result ≡ digit_of b }
 {
-    if utf8::among(b as u32, 0x30, 0x39) {
-        return (b - 0x30) as u64;
+    match b {
+        b'0'..=b'9' => (b - b'0') as u64,
+        b'A'..=b'F' => (b - b'A' + 10) as u64,
+        b'a'..=b'f' => (b - b'a' + 10) as u64,
+        _ => 16,
     }
-    if utf8::among(b as u32, 0x41, 0x46) {
-        return (b - 0x37) as u64;
-    }
-    if utf8::among(b as u32, 0x61, 0x66) {
-        return (b - 0x57) as u64;
-    }
-    16
 }
 
-// The number that the digits from a place on make, none being 0.
-fn all_digits(s: &[u8], at: usize, base: u64) -> Number
-    requires { 1 ≤ base }
-    ensures { result ≡ digits base 0 (drop at s.now) }
+// The number that digits make, none being 0.
+#[tactic(auto, using(crate::proofs::Digits::over, crate::proofs::Digits::next, crate::proofs::Digits::no_digit, crate::proofs::Digits::ended))]
+fn all_digits(s: &[u8], base: u64) -> Option<u64>
+    ensures { result ≡ digits base 0 s.now }
 {
     let mut v: u64 = 0;
-    let mut i = at;
-    while i < s.len() {
-        let d = digit_of(s[i]);
+    for b in s {
+        let d = digit_of(*b);
         if d >= base {
-            return Number::Bad;
+            return None;
         }
-        if v > (0xFFFF_FFFF_FFFF_FFFF - d) / base {
-            return Number::Bad;
-        }
-        v = v * base + d;
-        i += 1;
+        v = v.checked_mul(base)?.checked_add(d)?;
     }
-    Number::Value(v)
+    Some(v)
 }
 
-// The number that the digits from a place on make, of which there must be one.
-fn some_digits(s: &[u8], at: usize, base: u64) -> Number
-    requires { 1 ≤ base }
-    ensures { result ≡ some base (drop at s.now) }
+// The number that digits make, of which there must be one.
+#[tactic(auto, using(crate::proofs::Digits::no_digits, crate::proofs::Digits::some_digits))]
+fn some_digits(s: &[u8], base: u64) -> Option<u64>
+    ensures { result ≡ some base s.now }
 {
-    if at >= s.len() {
-        return Number::Bad;
+    if s.is_empty() {
+        return None;
     }
-    all_digits(s, at, base)
+    all_digits(s, base)
 }
 
-// The number from a place on, with one `+` before it if any.
-fn after_sign(s: &[u8], at: usize, base: u64) -> Number
-    requires { 1 ≤ base }
-    ensures { result ≡ signed base (drop at s.now) }
+// The number that digits make behind one `+`, if any.
+#[tactic(auto, using(crate::proofs::Digits::sign))]
+fn after_sign(s: &[u8], base: u64) -> Option<u64>
+    ensures { result ≡ signed base s.now }
 {
-    if at >= s.len() {
-        return Number::Bad;
-    }
-    if s[at] == b'+' {
-        return some_digits(s, at + 1, base);
-    }
-    some_digits(s, at, base)
+    some_digits(s.strip_prefix(b"+").unwrap_or(s), base)
 }
 
 // Whether the text begins with `0x` or `0X`.
+#[tactic(auto, using(crate::proofs::Digits::hex_small, crate::proofs::Digits::hex_large))]
 fn is_hex(t: &[u8]) -> bool
     ensures { result ≡ is_hex t.now }
 {
-    if utf8::two(t, 0, 0x30, 0x30, 0x78, 0x78) {
-        return true;
-    }
-    utf8::two(t, 0, 0x30, 0x30, 0x58, 0x58)
+    t.starts_with(b"0x") || t.starts_with(b"0X")
 }
 
-// The number that a token says, white space at its ends aside: hexadecimal after `0x` or `0X`, else decimal.
-pub fn parse(token: &[u8]) -> Number
+/// The number that a token says, as `number` of shell.rs reads it: white space at its ends aside, hexadecimal after `0x` or `0X`,
+/// else decimal, with one `+` before the digits if any. `None` where there is no digit, where another byte stands, or from 2^64 on.
+#[tactic(auto, using(crate::proofs::Tests::behind, crate::proofs::Digits::hex_long), unfolding(crate::specs::Number::numeral, crate::specs::Number::number_in))]
+pub fn parse(token: &[u8]) -> Option<u64>
     ensures { result ≡ number_in token.now }
 {
     let t = trim::trim(token);
     if is_hex(t) {
-        return after_sign(t, 2, 16);
+        after_sign(&t[2..], 16)
+    } else {
+        after_sign(t, 10)
     }
-    after_sign(t, 0, 10)
 }

@@ -8,37 +8,23 @@ ghost use Rattle.text.specs.Trim.{white_space, ◌⊳◌, code_point, blank_len,
 use crate::utf8;
 
 // Whether a code point is white space.
+#[tactic(auto, using(std::proofs::lemmas::Bool::Decides::nat_tests), unfolding(crate::specs::Trim::white_space, crate::specs::Utf8::any_of))]
 fn is_white(c: u32) -> bool
     ensures { result ≡ any_of (within c) white_space }
 {
-    if utf8::among(c, 0x0009, 0x000D) {
-        return true;
-    }
-    if utf8::among(c, 0x0020, 0x0020) {
-        return true;
-    }
-    if utf8::among(c, 0x0085, 0x0085) {
-        return true;
-    }
-    if utf8::among(c, 0x00A0, 0x00A0) {
-        return true;
-    }
-    if utf8::among(c, 0x1680, 0x1680) {
-        return true;
-    }
-    if utf8::among(c, 0x2000, 0x200A) {
-        return true;
-    }
-    if utf8::among(c, 0x2028, 0x2029) {
-        return true;
-    }
-    if utf8::among(c, 0x202F, 0x202F) {
-        return true;
-    }
-    if utf8::among(c, 0x205F, 0x205F) {
-        return true;
-    }
-    utf8::among(c, 0x3000, 0x3000)
+    matches!(
+        c,
+        0x0009..=0x000D
+            | 0x0020
+            | 0x0085
+            | 0x00A0
+            | 0x1680
+            | 0x2000..=0x200A
+            | 0x2028..=0x2029
+            | 0x202F
+            | 0x205F
+            | 0x3000
+    )
 }
 
 // The bits of a code point so far, and behind them the six of a tail octet.
@@ -49,78 +35,65 @@ fn with_tail(v: u32, b: u8) -> u32
     v * 64 + (b % 64) as u32
 }
 
-// The code point of the character of `n` octets at a place.
-fn code_point(s: &[u8], at: usize, n: usize) -> u32
-    requires n_in_bounds { at + n ≤ length s.now }
-    requires le_n { 1 ≤ n }
-    requires n_bound { n ≤ 4 }
-    ensures { result ≡ code_point n (drop at s.now) }
+// The code point of a character.
+#[tactic(auto, using(std::proofs::lemmas::Bool::Decides::nat_tests), unfolding(crate::specs::Trim::code_point))]
+fn code_point(character: &[u8]) -> u32
+    requires { (1 ≤ length character.now) × (length character.now ≤ 4) }
+    ensures { result ≡ code_point (length character.now) character.now }
 {
-    let b = s[at];
-    if n == 1 {
-        return (b % 128) as u32;
+    match character {
+        [a] => (*a % 128) as u32,
+        [a, b] => with_tail((*a % 32) as u32, *b),
+        [a, b, c] => with_tail(with_tail((*a % 16) as u32, *b), *c),
+        [a, b, c, d] => with_tail(with_tail(with_tail((*a % 8) as u32, *b), *c), *d),
+        _ => unreachable!(),
     }
-    if n == 2 {
-        return with_tail((b % 32) as u32, s[at + 1]);
-    }
-    if n == 3 {
-        return with_tail(with_tail((b % 16) as u32, s[at + 1]), s[at + 2]);
-    }
-    with_tail(
-        with_tail(with_tail((b % 8) as u32, s[at + 1]), s[at + 2]),
-        s[at + 3],
-    )
 }
 
-// How many octets the white space at a place has. It is 0 where none stands there.
-fn blank_len(s: &[u8], at: usize) -> usize
-    ensures { result ≡ blank_len (drop at s.now) }
+// How many octets the white space has that the text begins with. It is 0 where the text begins with none.
+#[tactic(auto, using(crate::proofs::Trimming::point_take, crate::proofs::Grammar::char_long, crate::proofs::Grammar::char_len_le, crate::proofs::Grammar::char_len_four), unfolding(crate::specs::Trim::blank_len))]
+fn blank_len(s: &[u8]) -> usize
+    ensures { result ≡ blank_len s.now }
 {
-    let n = utf8::char_len(s, at);
+    let n = utf8::char_len(s);
     if n == 0 {
         return 0;
     }
-    if is_white(code_point(s, at, n)) { n } else { 0 }
+    if is_white(code_point(&s[..n])) { n } else { 0 }
 }
 
-// Where the white space from a place on ends.
-fn blanks(s: &[u8], at: usize) -> usize
-    requires { at ≤ length s.now }
-    ensures { result ≡ length s.now - length (trim_start (drop at s.now)) }
+// The text without the white space at its start.
+#[tactic(auto, using(crate::proofs::Tests::behind, crate::proofs::Trimming::start_stop, crate::proofs::Trimming::start_on, crate::proofs::Trimming::blank_le))]
+fn trim_start(s: &[u8]) -> &[u8]
+    ensures { result.now ≡ trim_start s.now }
 {
-    let mut i = at;
-    while i < s.len() {
-        let n = blank_len(s, i);
+    // A `loop`: a turn is as long as the white space that stands there, which no iterator over octets gives.
+    let mut rest = s;
+    loop {
+        let n = blank_len(rest);
         if n == 0 {
-            return i;
+            return rest;
         }
-        i += n;
+        rest = &rest[n..];
     }
-    i
 }
 
-// How many octets to pass at a place: the character's, or one where none stands there.
-fn passed(s: &[u8], at: usize) -> usize
-    ensures { result ≡ suc (pred (char_len (drop at s.now))) }
-{
-    let n = utf8::char_len(s, at);
-    if n == 0 {
-        return 1;
-    }
-    n
-}
-
-// The text without the white space at its two ends: a part of the caller's slice.
+/// The text without the white space at its two ends, as `str::trim` gives it: a part of the caller's slice. An octet at which no
+/// character stands is no white space.
+#[tactic(auto, using(crate::proofs::Tests::behind, crate::proofs::Trimming::done, crate::proofs::Trimming::turn, crate::proofs::Trimming::cut_out))]
 pub fn trim(s: &[u8]) -> &[u8]
     ensures { result.now ≡ trim s.now }
 {
-    let a = blanks(s, 0);
-    let mut e = a;
+    let text = trim_start(s);
+    // A `loop`: a turn passes white space and the character behind it, each of its own length.
+    let mut rest = text;
     loop {
-        let p = blanks(s, e);
-        if p >= s.len() {
-            return &s[a..e];
+        let behind = trim_start(rest);
+        if behind.is_empty() {
+            return &text[..text.len() - rest.len()];
         }
-        e = p + passed(s, p);
+        // an octet at which no character stands is passed alone
+        let n = utf8::char_len(behind).max(1);
+        rest = &behind[n..];
     }
 }

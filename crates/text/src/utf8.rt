@@ -1,126 +1,107 @@
 // UTF-8 by the grammar of RFC 3629, section 4: `core::str::from_utf8`, which protocol.rs asks of a shell
 // line and of a partition field.
-// The functions go up the grammar: an octet of a range, a row of ranges, a rule's rows, a character, a run of characters.
-ghost use Rattle.std.specs.Prelude.{◌≡◌, [], ◌∷◌, drop};
-ghost use Rattle.text.specs.Utf8.{◌–◌, within, tail, begins, any_of, utf8_3, utf8_4, char_len, is_utf8};
+// The functions go up the grammar: a rule's rows of ranges, a character, a run of characters.
+ghost use Rattle.std.specs.Prelude.{◌≡◌, ◌≤◌, false, [], ◌∷◌, length};
+ghost use Rattle.text.specs.Utf8.{begins, any_of, utf8_1, utf8_2, utf8_3, utf8_4, first_of, char_len, octets, is_utf8};
 
-// Whether a number lies in a range.
-pub(crate) fn among(c: u32, lo: u32, hi: u32) -> bool
-    ensures { result ≡ within c (lo – hi) }
+// Whether the text begins with a character of one octet: UTF8-1.
+#[tactic(auto, using(crate::proofs::Grammar::rows, std::proofs::lemmas::Bool::Decides::nat_tests), unfolding(crate::specs::Utf8::any_of, crate::specs::Utf8::utf8_1))]
+fn begins_one(s: &[u8]) -> bool
+    ensures { result ≡ any_of (begins s.now) utf8_1 }
 {
-    if c < lo {
-        return false;
-    }
-    c <= hi
+    matches!(s, [0x00..=0x7F, ..])
 }
 
-// Whether an octet of the range stands at a place.
-fn octet(s: &[u8], at: usize, lo: u8, hi: u8) -> bool
-    ensures { result ≡ begins (drop at s.now) (lo – hi ∷ []) }
+// Whether the text begins with a character of two octets: UTF8-2.
+#[tactic(auto, using(crate::proofs::Grammar::rows, std::proofs::lemmas::Bool::Decides::nat_tests), unfolding(crate::specs::Utf8::any_of, crate::specs::Utf8::utf8_2))]
+fn begins_two(s: &[u8]) -> bool
+    ensures { result ≡ any_of (begins s.now) utf8_2 }
 {
-    if at >= s.len() {
-        return false;
-    }
-    among(s[at] as u32, lo as u32, hi as u32)
+    matches!(s, [0xC2..=0xDF, 0x80..=0xBF, ..])
 }
 
-// Whether octets of two ranges stand at a place.
-pub(crate) fn two(s: &[u8], at: usize, a: u8, b: u8, c: u8, d: u8) -> bool
-    ensures { result ≡ begins (drop at s.now) (a – b ∷ c – d ∷ []) }
+// Whether the text begins with a character of three octets: UTF8-3.
+#[tactic(auto, using(crate::proofs::Grammar::rows, std::proofs::lemmas::Bool::Decides::nat_tests), unfolding(crate::specs::Utf8::any_of, crate::specs::Utf8::utf8_3))]
+fn begins_three(s: &[u8]) -> bool
+    ensures { result ≡ any_of (begins s.now) utf8_3 }
 {
-    if octet(s, at, a, b) {
-        octet(s, at + 1, c, d)
+    matches!(
+        s,
+        [0xE0, 0xA0..=0xBF, 0x80..=0xBF, ..]
+            | [0xE1..=0xEC, 0x80..=0xBF, 0x80..=0xBF, ..]
+            | [0xED, 0x80..=0x9F, 0x80..=0xBF, ..]
+            | [0xEE..=0xEF, 0x80..=0xBF, 0x80..=0xBF, ..]
+    )
+}
+
+// Whether the text begins with a character of four octets: UTF8-4.
+#[tactic(auto, using(crate::proofs::Grammar::rows, std::proofs::lemmas::Bool::Decides::nat_tests), unfolding(crate::specs::Utf8::any_of, crate::specs::Utf8::utf8_4))]
+fn begins_four(s: &[u8]) -> bool
+    ensures { result ≡ any_of (begins s.now) utf8_4 }
+{
+    matches!(
+        s,
+        [0xF0, 0x90..=0xBF, 0x80..=0xBF, 0x80..=0xBF, ..]
+            | [0xF1..=0xF3, 0x80..=0xBF, 0x80..=0xBF, 0x80..=0xBF, ..]
+            | [0xF4, 0x80..=0x8F, 0x80..=0xBF, 0x80..=0xBF, ..]
+    )
+}
+
+// How many octets the character of several octets has that the text begins with: UTF8-2, UTF8-3 or UTF8-4. It is 0 where the
+// text begins with none.
+#[tactic(auto, using(crate::proofs::Grammar::char_rules))]
+fn long_char_len(s: &[u8]) -> usize
+    ensures { result ≡ first_of 2 (utf8_2 ∷ utf8_3 ∷ utf8_4 ∷ []) s.now }
+{
+    if begins_two(s) {
+        2
+    } else if begins_three(s) {
+        3
+    } else if begins_four(s) {
+        4
     } else {
-        false
+        0
     }
 }
 
-// Whether octets of two ranges and a tail octet stand at a place: a row of UTF8-3.
-fn three(s: &[u8], at: usize, a: u8, b: u8, c: u8, d: u8) -> bool
-    ensures { result ≡ begins (drop at s.now) (a – b ∷ c – d ∷ tail ∷ []) }
+// How many octets the character has that the text begins with: UTF8-char, which trim.rt asks for too. It is 0 where the text begins
+// with none.
+#[tactic(auto, using(crate::proofs::Grammar::char_rules), unfolding(crate::specs::Utf8::utf8_char, crate::specs::Utf8::char_len))]
+pub(crate) fn char_len(s: &[u8]) -> usize
+    ensures { result ≡ char_len s.now }
 {
-    if two(s, at, a, b, c, d) {
-        octet(s, at + 2, 0x80, 0xBF)
-    } else {
-        false
-    }
+    if begins_one(s) { 1 } else { long_char_len(s) }
 }
 
-// Whether octets of two ranges and two tail octets stand at a place: a row of UTF8-4.
-fn four(s: &[u8], at: usize, a: u8, b: u8, c: u8, d: u8) -> bool
-    ensures { result ≡ begins (drop at s.now) (a – b ∷ c – d ∷ tail ∷ tail ∷ []) }
+// The text without the characters of one octet at its start.
+#[tactic(auto, using(crate::proofs::Grammar::one_long, crate::proofs::Grammar::one_goes))]
+fn after_ascii(s: &[u8]) -> &[u8]
+    ensures same { octets 0 result.now ≡ octets 0 s.now }
+    ensures part { length result.now ≤ length s.now }
+    ensures past { any_of (begins result.now) utf8_1 ≡ false }
 {
-    if two(s, at, a, b, c, d) {
-        two(s, at + 2, 0x80, 0xBF, 0x80, 0xBF)
-    } else {
-        false
+    // A `while`: by the index that std's `position` gives, a character of several octets took more instructions (docs/DESIGN-PASS.md).
+    let mut rest = s;
+    while begins_one(rest) {
+        rest = &rest[1..];
     }
+    rest
 }
 
-// Whether a character of three octets stands at a place: UTF8-3.
-fn threes(s: &[u8], at: usize) -> bool
-    ensures { result ≡ any_of (begins (drop at s.now)) utf8_3 }
-{
-    if three(s, at, 0xE0, 0xE0, 0xA0, 0xBF) {
-        return true;
-    }
-    if three(s, at, 0xE1, 0xEC, 0x80, 0xBF) {
-        return true;
-    }
-    if three(s, at, 0xED, 0xED, 0x80, 0x9F) {
-        return true;
-    }
-    three(s, at, 0xEE, 0xEF, 0x80, 0xBF)
-}
-
-// Whether a character of four octets stands at a place: UTF8-4.
-fn fours(s: &[u8], at: usize) -> bool
-    ensures { result ≡ any_of (begins (drop at s.now)) utf8_4 }
-{
-    if four(s, at, 0xF0, 0xF0, 0x90, 0xBF) {
-        return true;
-    }
-    if four(s, at, 0xF1, 0xF3, 0x80, 0xBF) {
-        return true;
-    }
-    four(s, at, 0xF4, 0xF4, 0x80, 0x8F)
-}
-
-// How many octets the character at a place has: UTF8-char. It is 0 where no character stands there.
-pub(crate) fn char_len(s: &[u8], at: usize) -> usize
-    ensures { result ≡ char_len (drop at s.now) }
-{
-    if octet(s, at, 0x00, 0x7F) {
-        return 1;
-    }
-    if two(s, at, 0xC2, 0xDF, 0x80, 0xBF) {
-        return 2;
-    }
-    if threes(s, at) {
-        return 3;
-    }
-    if fours(s, at) {
-        return 4;
-    }
-    0
-}
-
-// Whether the bytes are UTF-8: characters one after another, and nothing else. UTF8-octets. An octet
-// under 128 is a character by itself: it is passed at once.
+/// Whether the bytes are UTF-8: characters one after another, and nothing else. UTF8-octets.
+#[tactic(auto, using(crate::proofs::Tests::behind, crate::proofs::Grammar::long, crate::proofs::Grammar::goes, crate::proofs::Grammar::ended, crate::proofs::Grammar::no_char, crate::proofs::Grammar::char_len_le), unfolding(crate::specs::Utf8::is_utf8))]
 pub fn is_utf8(s: &[u8]) -> bool
     ensures { result ≡ is_utf8 s.now }
 {
-    let mut i = 0;
-    while i < s.len() {
-        if s[i] < 128 {
-            i += 1;
-            continue;
-        }
-        let n = char_len(s, i);
+    // A `while`: a turn passes a character, which has a length of its own, and those of one octet behind it.
+    let mut rest = after_ascii(s);
+    while !rest.is_empty() {
+        let n = long_char_len(rest);
+        // no character stands here, so the rest is not looked at
         if n == 0 {
             return false;
         }
-        i += n;
+        rest = after_ascii(&rest[n..]);
     }
     true
 }

@@ -1,17 +1,18 @@
 -- One step of the transport: a packet comes, and what is sent, the states and the engine's rooms are as these say (01, 'Packets').
-use Rattle.std.specs.Prelude.{Bool, true, false, ◌&&◌, cond, List, [], ◌++◌, ℕ, ◌-◌, min, leb, eqb, length, take, drop}
+use Rattle.std.specs.Prelude.{Option, None, Some, Result, Ok, Err, Bool, true, false, ◌&&◌, cond, List, [], ◌++◌, ℕ, ◌-◌, min, leb, eqb, length, take, drop}
 use Rattle.wire.specs.Bytes.{laid}
 use Rattle.wire.specs.Packet.{cbw_of, csw_of}
 use Rattle.wire.specs.declared.packet.Cbw.{Cbw}
-use Rattle.wire.specs.declared.packet.Cbw.TheVariants as cbw
+use Rattle.storage.specs.World.{call_number}
+use Rattle.storage.specs.declared.types.CallError.{CallError}
 use Rattle.engine.specs.World.{Given, World, world, at_e, Out}
 use Rattle.engine.specs.Api.{fits, writes, Read, reads, cleared}
-use Rattle.engine.specs.declared.api.Got.{Got}
-use Rattle.engine.specs.declared.api.Got.TheVariants as got
+use Rattle.engine.specs.declared.types.Engine.{Engine}
 use Rattle.transport.specs.declared.port.Mode.{Mode}
 use Rattle.transport.specs.declared.port.Mode.TheVariants.{Command, Data, Closed}
 use Rattle.transport.specs.declared.port.Port.{Port}
-use Rattle.transport.specs.declared.port.Stepped.{Stepped}
+use Rattle.transport.specs.declared.step.Csw.{Csw}
+use Rattle.transport.specs.declared.step.Step as code
 use Rattle.transport.specs.Port.{idle, awaiting, closing, room_of, took}
 
 -- ---- what a step leaves
@@ -32,10 +33,6 @@ abbrev pub step_of : ℕ → Port → World → ℕ → Bool → ℕ → ℕ →
 step_of number p w n csw status residue sent =
     record { number = number; port = p; w = w; moved = n; csw = csw; status = status; residue = residue; sent = sent }
 
--- what a function of the code leaves, with the rooms that it was lent
-abbrev pub stepped : Stepped → List ℕ → List ℕ → List ℕ → List ℕ → List ℕ → List ℕ → Step
-stepped r q p c b x sent = step_of r.number r.port (world r.e q p c b x) r.moved r.csw r.status r.residue sent
-
 -- nothing is sent
 abbrev pub silent : Port → World → List ℕ → Step
 silent p w sent = step_of 0 p w 0 false 0 0 sent
@@ -47,6 +44,30 @@ fails w sent = silent idle (at_e (cleared w.e) w) sent
 -- the CSW of a valid CBW, behind n bytes of data
 unfoldable pub ends : ℕ → ℕ → ℕ → ℕ → World → List ℕ → Step
 ends tag status residue n w sent = step_of 0 (closing w.e.asked) w n true status residue (laid sent n (csw_of tag status residue))
+
+-- ---- the same as the code has it
+
+-- nothing is sent
+abbrev pub quiet : Port → code.Step
+quiet p = record { port = p; moved = 0; csw = None }
+
+-- n bytes of data and the CSW of a command: the flag says whether the session closes
+abbrev pub answered : Bool → ℕ → ℕ → ℕ → code.Step
+answered asked n status residue = record { port = closing asked; moved = n; csw = Some (record { status = status; residue = residue }) }
+
+-- what a step leaves that is not refused, by its CSW; the status and residue of none are 0
+abbrev pub went_by : Port → World → ℕ → List ℕ → Option Csw → Step
+went_by p w n sent None = step_of 0 p w n false 0 0 sent
+went_by p w n sent (Some c) = step_of 0 p w n true c.status c.residue sent
+
+abbrev pub went : code.Step → World → List ℕ → Step
+went s w sent = went_by s.port w s.moved sent s.csw
+
+-- what a call leaves, from the state before it, its answer, the record, request, reply, chip, buffer, scratch, and the room of sent
+-- packets; an error has its number, and the state as it was
+abbrev pub stepped : Port → Result code.Step CallError → Engine → List ℕ → List ℕ → List ℕ → List ℕ → List ℕ → List ℕ → Step
+stepped port (Ok s) e q p c b x sent = went s (world e q p c b x) sent
+stepped port (Err err) e q p c b x sent = step_of (call_number err) port (world e q p c b x) 0 false 0 0 sent
 
 -- ---- a CBW
 
@@ -62,9 +83,9 @@ unfoldable pub write_stage : Given → ℕ → ℕ → World → List ℕ → St
 write_stage g tag len w sent = cond (eqb len 0) (wrote_by tag sent (writes g w [])) (silent (awaiting tag len 0) w sent)
 
 -- a READ sends what waits, up to its length; the residue is what was not moved
-abbrev pub count_of : Got → ℕ
-count_of got.Refused = 0
-count_of (got.Count n) = n
+abbrev pub count_of : Result ℕ CallError → ℕ
+count_of (Err e) = 0
+count_of (Ok n) = n
 
 abbrev pub took_by : ℕ → ℕ → World → List ℕ → Read → Step
 took_by tag len w sent r = ends tag 0 (len - count_of r.got) (count_of r.got) (at_e r.e w) (r.room ++ drop (min len 4112) sent)
@@ -73,10 +94,11 @@ unfoldable pub read_stage : Given → ℕ → ℕ → World → List ℕ → Ste
 read_stage g tag len w sent = took_by tag len w sent (reads g w (take (min len 4112) sent))
 
 -- WRITE is 1, READ 2; an unknown one has status 1 and the whole length as residue, and leaves the engine
-abbrev pub cbw_by : Given → World → List ℕ → Cbw → Step
-cbw_by g w sent cbw.Bad = refuses w sent
-cbw_by g w sent (cbw.Command tag len c) =
-    cond (eqb c 1) (write_stage g tag len w sent) (cond (eqb c 2) (read_stage g tag len w sent) (ends tag 1 len 0 w sent))
+abbrev pub cbw_by : Given → World → List ℕ → Option Cbw → Step
+cbw_by g w sent None = refuses w sent
+cbw_by g w sent (Some c) =
+    cond (eqb c.command 1) (write_stage g c.tag c.length w sent)
+    (cond (eqb c.command 2) (read_stage g c.tag c.length w sent) (ends c.tag 1 c.length 0 w sent))
 
 -- the room of a CBW is 31 bytes
 unfoldable pub commands : Given → World → List ℕ → List ℕ → Step

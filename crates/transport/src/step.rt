@@ -1,358 +1,231 @@
 // One step: class.rs `protocol` cut at each packet that it reads.
-ghost use Rattle.std.specs.Prelude.{false, ◌&&◌, List, ◌≡◌, ℕ, ◌≤◌, min, leb, length};
-ghost use Rattle.storage.specs.World.{lent};
-ghost use Rattle.storage.specs.Partition.{lists};
-ghost use Rattle.wire.specs.declared.packet.Cbw.TheVariants.{Command};
-ghost use Rattle.engine.specs.World.{given, world, out_of};
-ghost use Rattle.engine.specs.Api.{fits};
-ghost use Rattle.transport.specs.Step.{step_of, stepped, silent, fails, ends, refuses, count_of, write_stage, read_stage, cbw_by, commands, moved_by, moves, steps};
+ghost use Rattle.std.specs.Prelude.{false, ◌&&◌, Some, ◌≡◌, ◌≤◌, leb, length};
+ghost use Rattle.wire.specs.Bytes.{laid};
+ghost use Rattle.wire.specs.Packet.{csw_of};
+ghost use Rattle.engine.specs.World.{KeepsRooms, world_of};
+ghost use Rattle.engine.specs.Api.{fits, cleared};
+ghost use Rattle.transport.specs.Port.{idle};
+ghost use Rattle.transport.specs.Step.{quiet, answered, went, stepped, write_stage, read_stage, cbw_by, commands, moves, steps};
 
-use crate::port::{Mode, Port, Stepped, stage, start};
-use engine::api::{Got, all_ok, cleared, read, write};
+use crate::port::{Mode, Port};
+use engine::given::Given;
+use engine::rooms::Rooms;
 use engine::types::Engine;
+use storage::types::{CallError, status_number};
 use wire::bytes::put;
-use wire::packet::{Cbw, csw, parse_cbw};
+use wire::packet::{csw, parse_cbw};
 
-// Nothing is sent.
-fn nothing(number: u8, port: Port, e: Engine) -> Stepped
-    ensures { (q p c b x s : List ℕ) → stepped result q p c b x s ≡ step_of number port (world e q p c b x) 0 false 0 0 s }
-{
-    Stepped {
-        number,
-        port,
-        e,
-        moved: 0,
-        csw: false,
-        status: 0,
-        residue: 0,
-    }
+// The room of a packet where a CBW is awaited.
+const CBW_ROOM: usize = 31;
+
+// The commands of a CBW: the host sends data, or reads them.
+const WRITE: u8 = 1;
+
+const READ: u8 = 2;
+
+/// A CSW that is sent: its status, and how many bytes of the command's length were not moved.
+// A status is a number, here and below: it is the byte that the CSW sends.
+#[derive(Clone, Copy, Debug, PartialEq, Eq)]
+pub struct Csw {
+    pub status: u8,
+    pub residue: u32,
 }
 
-fn silent(port: Port, e: Engine) -> Stepped
-    ensures { (q p c b x s : List ℕ) → stepped result q p c b x s ≡ silent port (world e q p c b x) s }
+/// What a packet led to: the transport's next state, how many bytes of data stand at the front of the room of
+/// sent packets, in packets of 512, and the CSW that stands behind them, if one does.
+// `csw` is the Option: no flag stands beside it.
+#[derive(Clone, Copy, Debug, PartialEq, Eq)]
+pub struct Step {
+    pub port: Port,
+    pub moved: usize,
+    pub csw: Option<Csw>,
+}
+
+// Nothing is sent.
+fn quiet(port: Port) -> Step
+    ensures { result ≡ quiet port }
 {
-    nothing(0, port, e)
+    Step {
+        port,
+        moved: 0,
+        csw: None,
+    }
 }
 
 // Is the room of sent packets long enough, and all else as the engine's calls ask.
 fn may_step(
-    e: Engine,
+    engine: &Engine,
+    given: &Given<'_>,
     request: &[u8],
-    reply: &[u8],
-    chip: &[u8],
-    buffer: &[u8],
-    scratch: &[u8],
-    marks: &[u8],
-    offsets: &[u64],
-    sizes: &[u64],
-    lens: &[u64],
-    names: &[u8],
+    rooms: &Rooms<'_>,
     sent: &[u8],
 ) -> bool
-    ensures { (f t : List ℕ) → result ≡ (leb 4125 (length sent.now) && fits (given (lent f marks.now) (lists offsets.now sizes.now lens.now names.now) t) (world e request.now reply.now chip.now buffer.now scratch.now)) }
+    ensures { result ≡ (leb 4125 (length sent.now) && fits given.now (world_of engine.now request.now rooms.now)) }
 {
-    if sent.len() < 4125 {
-        return false;
-    }
-    all_ok(
-        e, request, reply, chip, buffer, scratch, marks, offsets, sizes, lens, names,
-    )
+    4125 <= sent.len() && engine.fits(given, request, rooms)
 }
 
-// A failed read: the engine is reset, and a CBW is next.
-fn failed(e: Engine) -> Stepped
-    ensures { (q p c b x s : List ℕ) → stepped result q p c b x s ≡ fails (world e q p c b x) s }
+// A failed read: the engine is reset, no CSW is sent, and a CBW is next.
+fn failed(engine: &mut Engine) -> Step
+    ensures step { result ≡ quiet idle }
+    ensures reset { engine.new ≡ cleared engine.old }
 {
-    silent(start(), cleared(e))
+    engine.reset();
+    quiet(Port::start())
 }
 
-// The CSW of a valid CBW is sent behind so many bytes of data.
-fn ended(e: Engine, tag: u32, status: u8, residue: u32, moved: usize, sent: &mut [u8]) -> Stepped
-    ensures { (q p c b x : List ℕ) → stepped result q p c b x sent.new ≡ ends tag status residue moved (world e q p c b x) sent.old }
+// The CSW of a valid CBW is sent behind so many bytes of data: `moved` is a place in the room, and not its length.
+fn ended(asked: bool, tag: u32, status: u8, residue: u32, moved: usize, sent: &mut [u8]) -> Step
+    ensures step { result ≡ answered asked moved status residue }
+    ensures sent { sent.new ≡ laid sent.old moved (csw_of tag status residue) }
 {
     put(sent, moved, &csw(tag, status, residue));
-    Stepped {
-        number: 0,
-        port: start().ended(e.asked),
-        e,
+    Step {
+        port: Port::start().ended(asked),
         moved,
-        csw: true,
-        status,
-        residue,
+        csw: Some(Csw { status, residue }),
     }
 }
 
-// The CSW of a bad CBW is sent.
-fn refused(e: Engine, sent: &mut [u8]) -> Stepped
-    ensures { (q p c b x : List ℕ) → stepped result q p c b x sent.new ≡ refuses (world e q p c b x) sent.old }
+// The CSW of a bad CBW is sent, which never closes the session.
+fn refused(sent: &mut [u8]) -> Step
+    ensures step { result ≡ answered false 0 1 0 }
+    ensures sent { sent.new ≡ laid sent.old 0 (csw_of 0 1 0) }
 {
-    put(sent, 0, &csw(0, 1, 0));
-    Stepped {
-        number: 0,
-        port: start(),
-        e,
-        moved: 0,
-        csw: true,
-        status: 1,
-        residue: 0,
-    }
+    ended(false, 0, 1, 0, 0, sent)
 }
 
 // ---- a CBW
 
 // A WRITE begins: with no data it is a write of no bytes, any other awaits its packets.
+#[tactic(auto, unfolding(crate::specs::Step::write_stage, crate::specs::Step::ends))]
 fn write_stage(
-    e: Engine,
+    engine: &mut Engine,
+    given: &Given<'_>,
+    request: &mut [u8],
+    rooms: &mut Rooms<'_>,
+    sent: &mut [u8],
     tag: u32,
     len: u32,
-    request: &mut [u8],
-    faults: &[u8],
-    marks: &[u8],
-    offsets: &[u64],
-    sizes: &[u64],
-    lens: &[u64],
-    names: &[u8],
-    table: &[u8],
-    chip: &mut [u8],
-    buffer: &mut [u8],
-    scratch: &mut [u8],
-    reply: &mut [u8],
-    sent: &mut [u8],
-) -> Stepped
-    ensures { stepped result request.new reply.new chip.new buffer.new scratch.new sent.new ≡ write_stage (given (lent faults.now marks.now) (lists offsets.now sizes.now lens.now names.now) table.now) tag len (world e request.old reply.old chip.old buffer.old scratch.old) sent.old }
+) -> Step
+    ensures rooms { KeepsRooms rooms.old rooms.new }
+    ensures steps { went result (world_of engine.new request.new rooms.new) sent.new ≡ write_stage given.now tag len (world_of engine.old request.old rooms.old) sent.old }
 {
     if len != 0 {
-        return silent(stage(tag, len, 0), e);
+        return quiet(Port::stage(tag, len));
     }
-    let d = write(
-        e, request, faults, marks, offsets, sizes, lens, names, table, chip, buffer, scratch,
-        reply, &[0u8; 0],
-    );
-    let f = d.e;
-    ended(f, tag, d.status, 0, 0, sent)
+    let status = status_number(engine.write(given, request, rooms, &[]));
+    ended(engine.asked, tag, status, 0, 0, sent)
 }
 
-// The lesser of a READ's length and the longest reply.
-fn most(len: u32) -> usize
-    ensures { result ≡ min len 4112 }
-{
-    if len < 4112 {
-        return len as usize;
-    }
-    4112
-}
-
-// How many bytes a read copied.
-fn count_of(got: Got) -> usize
-    ensures { result ≡ count_of got }
-{
-    match got {
-        Got::Refused => 0,
-        Got::Count(n) => n,
-    }
-}
-
-// A READ: what waits is sent, up to its length.
+// A READ: what waits is sent, up to its length and to the longest reply. A read that fails sends none.
+#[tactic(auto, unfolding(crate::specs::Step::read_stage, crate::specs::Step::ends))]
 fn read_stage(
-    e: Engine,
-    tag: u32,
-    len: u32,
+    engine: &mut Engine,
+    given: &Given<'_>,
     request: &[u8],
-    marks: &[u8],
-    offsets: &[u64],
-    sizes: &[u64],
-    lens: &[u64],
-    names: &[u8],
-    chip: &[u8],
-    buffer: &[u8],
-    scratch: &[u8],
-    reply: &[u8],
+    rooms: &Rooms<'_>,
     sent: &mut [u8],
-) -> Stepped
-    requires { 4125 ≤ length sent.old }
-    ensures { (f t : List ℕ) → stepped result request.now reply.now chip.now buffer.now scratch.now sent.new ≡ read_stage (given (lent f marks.now) (lists offsets.now sizes.now lens.now names.now) t) tag len (world e request.now reply.now chip.now buffer.now scratch.now) sent.old }
-{
-    let n = most(len);
-    let t = read(
-        e,
-        request,
-        reply,
-        chip,
-        buffer,
-        scratch,
-        marks,
-        offsets,
-        sizes,
-        lens,
-        names,
-        &mut sent[0..n],
-    );
-    let f = t.e;
-    let got = t.got;
-    let count = count_of(got);
-    ended(f, tag, 0, len - count as u32, count, sent)
-}
-
-// A valid CBW begins a stage, or is of a command that is not known.
-fn begun(
-    e: Engine,
     tag: u32,
     len: u32,
-    command: u8,
-    request: &mut [u8],
-    faults: &[u8],
-    marks: &[u8],
-    offsets: &[u64],
-    sizes: &[u64],
-    lens: &[u64],
-    names: &[u8],
-    table: &[u8],
-    chip: &mut [u8],
-    buffer: &mut [u8],
-    scratch: &mut [u8],
-    reply: &mut [u8],
-    sent: &mut [u8],
-) -> Stepped
+) -> Step
     requires { 4125 ≤ length sent.old }
-    ensures { stepped result request.new reply.new chip.new buffer.new scratch.new sent.new ≡ cbw_by (given (lent faults.now marks.now) (lists offsets.now sizes.now lens.now names.now) table.now) (world e request.old reply.old chip.old buffer.old scratch.old) sent.old (Command tag len command) }
+    ensures { went result (world_of engine.new request.now rooms.now) sent.new ≡ read_stage given.now tag len (world_of engine.old request.now rooms.now) sent.old }
 {
-    match command {
-        1 => write_stage(
-            e, tag, len, request, faults, marks, offsets, sizes, lens, names, table, chip, buffer,
-            scratch, reply, sent,
-        ),
-        2 => read_stage(
-            e, tag, len, request, marks, offsets, sizes, lens, names, chip, buffer, scratch, reply,
-            sent,
-        ),
-        _ => ended(e, tag, 1, len, 0, sent),
-    }
+    let n = (len as usize).min(4112);
+    let count = engine
+        .read(given, request, rooms, &mut sent[..n])
+        .unwrap_or(0);
+    ended(engine.asked, tag, 0, len - count as u32, count, sent)
 }
 
-// A packet where a CBW is awaited. Its room is 31 bytes.
+// A packet where a CBW is awaited. A valid one begins a stage, or is of a command that is not known.
+#[tactic(auto, unfolding(crate::specs::Step::commands, crate::specs::Step::fails, crate::specs::Step::refuses, crate::specs::Step::ends))]
 fn command(
-    e: Engine,
+    engine: &mut Engine,
+    given: &Given<'_>,
     request: &mut [u8],
-    faults: &[u8],
-    marks: &[u8],
-    offsets: &[u64],
-    sizes: &[u64],
-    lens: &[u64],
-    names: &[u8],
-    table: &[u8],
-    chip: &mut [u8],
-    buffer: &mut [u8],
-    scratch: &mut [u8],
-    reply: &mut [u8],
+    rooms: &mut Rooms<'_>,
     sent: &mut [u8],
     packet: &[u8],
-) -> Stepped
+) -> Step
     requires { 4125 ≤ length sent.old }
-    ensures { stepped result request.new reply.new chip.new buffer.new scratch.new sent.new ≡ commands (given (lent faults.now marks.now) (lists offsets.now sizes.now lens.now names.now) table.now) (world e request.old reply.old chip.old buffer.old scratch.old) sent.old packet.now }
+    ensures rooms { KeepsRooms rooms.old rooms.new }
+    ensures steps { went result (world_of engine.new request.new rooms.new) sent.new ≡ commands given.now (world_of engine.old request.old rooms.old) sent.old packet.now }
 {
-    if 31 < packet.len() {
-        return failed(e);
+    if CBW_ROOM < packet.len() {
+        return failed(engine);
     }
-    let Cbw::Command {
-        tag,
-        length,
-        command,
-    } = parse_cbw(packet)
-    else {
-        return refused(e, sent);
+    let Some(cbw) = parse_cbw(packet) else {
+        return refused(sent);
     };
-    begun(
-        e, tag, length, command, request, faults, marks, offsets, sizes, lens, names, table, chip,
-        buffer, scratch, reply, sent,
-    )
+    // the command is a number, since any byte may stand there
+    match cbw.command {
+        WRITE => write_stage(engine, given, request, rooms, sent, cbw.tag, cbw.length),
+        READ => read_stage(engine, given, request, rooms, sent, cbw.tag, cbw.length),
+        _ => ended(engine.asked, cbw.tag, 1, cbw.length, 0, sent),
+    }
 }
 
 // ---- a data stage
 
-// A packet of a data stage went to the engine; the last one brings the CSW.
-fn moved(port: Port, e: Engine, sent: &mut [u8]) -> Stepped
-    ensures { (q p c b x : List ℕ) (n : ℕ) → stepped result q p c b x sent.new ≡ moved_by port sent.old (out_of n (world e q p c b x)) }
-{
-    if port.left != 0 {
-        return silent(port, e);
-    }
-    ended(e, port.tag, port.status, 0, 0, sent)
-}
-
-// A packet where one of a data stage is awaited. An empty one ends it.
+// A packet where one of a data stage is awaited. An empty one ends it, and so does the last one.
+#[tactic(auto, unfolding(crate::specs::Step::moves, crate::specs::Step::fails, crate::specs::Step::ends))]
 fn staged(
     port: Port,
-    e: Engine,
+    engine: &mut Engine,
+    given: &Given<'_>,
     request: &mut [u8],
-    faults: &[u8],
-    marks: &[u8],
-    offsets: &[u64],
-    sizes: &[u64],
-    lens: &[u64],
-    names: &[u8],
-    table: &[u8],
-    chip: &mut [u8],
-    buffer: &mut [u8],
-    scratch: &mut [u8],
-    reply: &mut [u8],
+    rooms: &mut Rooms<'_>,
     sent: &mut [u8],
     packet: &[u8],
-) -> Stepped
-    ensures { stepped result request.new reply.new chip.new buffer.new scratch.new sent.new ≡ moves (given (lent faults.now marks.now) (lists offsets.now sizes.now lens.now names.now) table.now) port (world e request.old reply.old chip.old buffer.old scratch.old) sent.old packet.now }
+) -> Step
+    ensures rooms { KeepsRooms rooms.old rooms.new }
+    ensures steps { went result (world_of engine.new request.new rooms.new) sent.new ≡ moves given.now port (world_of engine.old request.old rooms.old) sent.old packet.now }
 {
     let n = packet.len();
     if port.room() < n {
-        return failed(e);
+        return failed(engine);
     }
     if n == 0 {
-        return ended(e, port.tag, port.status, port.left, 0, sent);
+        return ended(engine.asked, port.tag, port.status, port.left, 0, sent);
     }
-    let d = write(
-        e, request, faults, marks, offsets, sizes, lens, names, table, chip, buffer, scratch,
-        reply, packet,
-    );
-    let f = d.e;
-    moved(port.took(n as u32, d.status), f, sent)
+    let status = status_number(engine.write(given, request, rooms, packet));
+    let next = port.took(n as u32, status);
+    if next.left != 0 {
+        return quiet(next);
+    }
+    ended(engine.asked, next.tag, next.status, 0, 0, sent)
 }
 
 // ---- a packet
 
-// One step. Refused with 9 where the room of sent packets is under 4,125 bytes, and where a write would be.
-pub fn step(
-    port: Port,
-    e: Engine,
-    request: &mut [u8],
-    faults: &[u8],
-    marks: &[u8],
-    offsets: &[u64],
-    sizes: &[u64],
-    lens: &[u64],
-    names: &[u8],
-    table: &[u8],
-    chip: &mut [u8],
-    buffer: &mut [u8],
-    scratch: &mut [u8],
-    reply: &mut [u8],
-    sent: &mut [u8],
-    packet: &[u8],
-) -> Stepped
-    ensures { stepped result request.new reply.new chip.new buffer.new scratch.new sent.new ≡ steps (given (lent faults.now marks.now) (lists offsets.now sizes.now lens.now names.now) table.now) port (world e request.old reply.old chip.old buffer.old scratch.old) sent.old packet.now }
-{
-    if !may_step(
-        e, request, reply, chip, buffer, scratch, marks, offsets, sizes, lens, names, sent,
-    ) {
-        return nothing(9, port, e);
-    }
-    let mode = port.mode;
-    match mode {
-        Mode::Command => command(
-            e, request, faults, marks, offsets, sizes, lens, names, table, chip, buffer, scratch,
-            reply, sent, packet,
-        ),
-        Mode::Data => staged(
-            port, e, request, faults, marks, offsets, sizes, lens, names, table, chip, buffer,
-            scratch, reply, sent, packet,
-        ),
-        Mode::Closed => silent(port, e),
+impl Port {
+    /// A packet comes: class.rs `protocol` from one read of a packet to the next. What is sent in return lies at
+    /// the front of `sent`. `Refused` leaves all as it was: `sent` has under 4,125 bytes, or a write of the
+    /// engine would be refused. Nothing else fails.
+    #[tactic(auto, unfolding(crate::specs::Step::steps))]
+    pub fn step(
+        self,
+        engine: &mut Engine,
+        given: &Given<'_>,
+        request: &mut [u8],
+        rooms: &mut Rooms<'_>,
+        sent: &mut [u8],
+        packet: &[u8],
+    ) -> Result<Step, CallError>
+        ensures rooms { KeepsRooms rooms.old rooms.new }
+        ensures steps { stepped self result engine.new request.new rooms.new.reply.now rooms.new.chip.now rooms.new.buffer.now rooms.new.scratch.now sent.new ≡ steps given.now self (world_of engine.old request.old rooms.old) sent.old packet.now }
+    {
+        if !may_step(engine, given, request, rooms, sent) {
+            return Err(CallError::Refused);
+        }
+        // a `match`, since the modes are a closed enum
+        let step = match self.mode {
+            Mode::Command => command(engine, given, request, rooms, sent, packet),
+            Mode::Data => staged(self, engine, given, request, rooms, sent, packet),
+            Mode::Closed => quiet(self),
+        };
+        Ok(step)
     }
 }

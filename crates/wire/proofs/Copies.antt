@@ -1,27 +1,9 @@
--- Laws of a copy, byte by byte from the front, and of bytes laid over others.
-use Rattle.std.proofs.Common.{◌≡◌, ℕ, zero, suc, ◌+◌, ◌-◌, ◌<◌, ◌≤◌, Bool, cond, List, [], ◌∷◌, ◌++◌, length, get_or, take, drop, set, sym, refl, ap, ◌∙◌, ap₂, append_assoc, append-nil, le_of_suc-le-suc, not-suc-le-zero, add-one, arith, drop_of_length-le, drop-drop, le-leb}
+-- Laws of bytes laid over others.
+use Rattle.std.proofs.Common.{◌≡◌, ℕ, ◌+◌, ◌-◌, ◌<◌, ◌≤◌, Bool, cond, List, ◌++◌, length, take, drop, sym, ap, ◌∙◌, ap₂, append_assoc, append-nil, arith, drop_of_length-le, drop-drop, le-leb}
 use borrow.Author.Tests.{lt-leb}
 use borrow.Rule.Slice.PartMut.{put_mid, Post-is}
-use lib.Seq.{drop-length, take-length, sets, sets-eq}
+use lib.Seq.{sets, sets-eq}
 use Rattle.wire.specs.Bytes.{laid}
-
-copy_suc : (n : ℕ) (d s : List ℕ) → n < length d → n < length s
-    → set (take n s ++ drop n d) n (get_or s n 0) ≡ take (suc n) s ++ drop (suc n) d
-copy_suc n [] s l k = absurd (not-suc-le-zero l)
-copy_suc n (x ∷ d) [] l k = absurd (not-suc-le-zero k)
-copy_suc zero (x ∷ d) (y ∷ s) l k = refl
-copy_suc (suc n) (x ∷ d) (y ∷ s) l k = ap (λ (t : List ℕ). y ∷ t) (copy_suc n d s (le_of_suc-le-suc l) (le_of_suc-le-suc k))
-
--- a turn of a loop that copies s over d from the front
-pub copy_more : (n : ℕ) (d s : List ℕ) → n < length d → n < length s
-    → set (take n s ++ drop n d) n (get_or s n 0) ≡ take (n + 1) s ++ drop (n + 1) d
-copy_more n d s l k = rw add-one (copy_suc n d s l k)
-
--- the copy is whole once the counter has come to the length
-pub copied : (n : ℕ) (d s : List ℕ) → n ≡ length d → length s ≡ length d → take n s ++ drop n d ≡ s
-copied n d s e q = rw (e, drop-length d, append-nil, ← q, take-length s)
-
--- ---- bytes laid over others
 
 -- where they do not fit, nothing
 pub laid_not : (s : List ℕ) (at : ℕ) (xs : List ℕ) → length s < at + length xs → s ≡ laid s at xs

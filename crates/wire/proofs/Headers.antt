@@ -1,49 +1,26 @@
--- Which byte runs are headers and CBWs, case by case as the code tests them; and the round trip: what is built is parsed back.
-use Rattle.std.proofs.Common.{◌≡◌, ℕ, ◌+◌, ◌*◌, ◌/◌, ◌%◌, ◌^◌, ◌<◌, ◌≤◌, List, ◌++◌, length, get_or, sym, refl, ap, mod-lt, arith, eq-eqb, ne_eqb, le-leb}
+-- The round trip: a header that is built is parsed back; and what is too short for a CBW.
+use Rattle.std.proofs.Common.{None, ◌≡◌, ℕ, ◌+◌, ◌*◌, ◌/◌, ◌%◌, ◌^◌, ◌<◌, ◌≤◌, List, ◌++◌, length, get_or, sym, refl, ap, mod-lt, arith, eq-eqb, le-leb}
 use borrow.Author.Tests.{lt-leb}
 use Rattle.wire.specs.Bytes.{bytes_of, le, word_at}
-use Rattle.wire.specs.Header.{request_magic, checksum_of, header_of, accepted, parsed}
-use Rattle.wire.specs.Packet.{cbw_magic, is_cbw, cbw_of}
-use Rattle.wire.specs.declared.header.Header.TheVariants.{Bad, Request}
-use Rattle.wire.specs.declared.packet.Cbw.TheVariants.{Bad as NoCbw, Command}
+use Rattle.wire.specs.Header.{request_magic, checksum_of, header_of, accepted, request_of, parsed}
+use Rattle.wire.specs.Packet.{is_cbw, cbw_of}
 
 -- ---- a request's header
 
-pub short : (s : List ℕ) → length s < 16 → Bad ≡ parsed s
-unfolding parsed accepted
-short s h = rw lt-leb
-
 module _ (s : List ℕ) (h : 16 ≤ length s) {m : ℕ} (p : m ≡ word_at 4 s 0) where
-  pub other_magic : (m ≡ request_magic → ⊥) → Bad ≡ parsed s
-  unfolding parsed accepted
-  other_magic q = rw (le-leb, ← p, ne_eqb m request_magic q)
-
   module _ (q : m ≡ request_magic) {len sum told : ℕ} (r : len ≡ word_at 4 s 8) (t : told ≡ word_at 4 s 12)
       (u : sum ≡ checksum_of m (get_or s 6 0) (get_or s 7 0) len) where
-    pub other_sum : (told ≡ sum → ⊥) → Bad ≡ parsed s
-    unfolding parsed accepted
-    other_sum n =
-        rw (le-leb, ← p, eq-eqb m request_magic q, ← t, ← r, ← ap (λ (x : ℕ). checksum_of x (get_or s 6 0) (get_or s 7 0) len) q, ← u, ne_eqb told sum n)
-
-    pub read : told ≡ sum → Request (get_or s 6 0) (get_or s 7 0) len ≡ parsed s
+    pub read : told ≡ sum → request_of (get_or s 6 0) (get_or s 7 0) len ≡ parsed s
     unfolding parsed accepted
     read e =
         rw (le-leb, ← p, eq-eqb m request_magic q, ← t, ← r, ← ap (λ (x : ℕ). checksum_of x (get_or s 6 0) (get_or s 7 0) len) q, ← u, eq-eqb told sum e)
 
 -- ---- a CBW
 
-pub cbw_short : (s : List ℕ) → length s < 31 → NoCbw ≡ cbw_of s
+-- fewer than 31 bytes are none
+pub cbw_short : (s : List ℕ) → length s < 31 → None ≡ cbw_of s
 unfolding cbw_of is_cbw
 cbw_short s h = rw lt-leb
-
-module _ (s : List ℕ) (h : 31 ≤ length s) {m : ℕ} (p : m ≡ word_at 4 s 0) where
-  pub cbw_other : (m ≡ cbw_magic → ⊥) → NoCbw ≡ cbw_of s
-  unfolding cbw_of is_cbw
-  cbw_other q = rw (le-leb, ← p, ne_eqb m cbw_magic q)
-
-  pub cbw_read : (m ≡ cbw_magic) → {tag len : ℕ} → tag ≡ word_at 4 s 4 → len ≡ word_at 4 s 8 → Command tag len (get_or s 15 0) ≡ cbw_of s
-  unfolding cbw_of is_cbw
-  cbw_read q t l = rw (le-leb, ← p, eq-eqb m cbw_magic q, ← t, ← l)
 
 -- ---- the round trip
 
@@ -68,6 +45,6 @@ module _ (command status len : ℕ) (rest : List ℕ) (h : len < 2 ^ 32) where
   built_long = omega arith
 
   -- THE LAW: a request's header that is built is parsed back, whatever stands behind it
-  pub built_is_read : parsed (header_of request_magic command status len ++ rest) ≡ Request command status len
+  pub built_is_read : parsed (header_of request_magic command status len ++ rest) ≡ request_of command status len
   unfolding built header_of bytes_of word_at le
   built_is_read = sym (read built built_long refl refl (sym built_length) (sym built_sum) refl refl)

@@ -1,6 +1,9 @@
 -- A word of eight bytes goes into the register at once, and each byte's shifts are one lookup: the shift is linear, so the 64
 -- shifts of eight bytes are the sum of what each byte becomes alone, and a byte that is j bytes up has 8 * j shifts less to go.
-use Rattle.std.proofs.Common.{◌≡◌, ℕ, zero, suc, ◌+◌, ◌-◌, ◌*◌, ◌/◌, ◌%◌, ◌^◌, ◌<◌, ◌≤◌, List, [], ◌∷◌, length, get_or, take, drop, sym, ap, ◌∙◌, ap₂, zero-mul, arith, lit<, length-drop, take-append-drop, length-take, get_or-drop, drop-drop, shr-shr}
+use Rattle.std.proofs.Common.{◌≡◌, ℕ, zero, suc, ◌+◌, ◌-◌, ◌*◌, ◌/◌, ◌%◌, ◌^◌, ◌<◌, ◌≤◌, List, [], ◌∷◌, ◌++◌, length, get_or, take, drop, sym, refl, ap, ◌∙◌, ap₂, zero-mul, arith, lit<, take-append-drop, get_or-drop, drop-cons, drop_of_length-le, shr-shr}
+use Rattle.std.proofs.Math.Seq.{take-add}
+use Rattle.std.specs.List.{concat}
+use Rattle.std.specs.Simd.{first_chunks}
 use Rattle.wire.specs.Bytes.{le}
 use Rattle.wire.specs.Crc.{◌⊕◌, shifts, byte_in, crc_from}
 use Rattle.wire.specs.Slices.{entry, slice_table}
@@ -31,12 +34,6 @@ crc_word (b ∷ l) r h =
     count : 8 + 8 * length l ≡ 8 * suc (length l)
     count = omega arith
 
-take_small : (n : ℕ) (l : List ℕ) (k : ℕ) → get_or l k 0 < 256 → get_or (take n l) k 0 < 256
-take_small zero l k h = lit< tt
-take_small (suc n) [] k h = h
-take_small (suc n) (b ∷ l) zero h = h
-take_small (suc n) (b ∷ l) (suc k) h = take_small n l k h
-
 -- the sum that the code forms of eight bytes
 pub eight : (l : List ℕ)
     → get_or l 0 0 + 256 * (get_or l 1 0 + 256 * (get_or l 2 0 + 256 * get_or l 3 0))
@@ -44,19 +41,33 @@ pub eight : (l : List ℕ)
     ≡ le (take 8 l)
 eight l = ap₂ (λ (x y : ℕ). x + 0x1_0000_0000 * y) (four l) (simp get_or-drop at (four (drop 4 l))) ∙ halves l
 
--- one turn: eight bytes
-pub crc_turn : (s : List ℕ) (i r : ℕ) → i + 8 ≤ length s → ((k : ℕ) → get_or s k 0 < 256)
-    → crc_from (shifts 64 (r ⊕ le (take 8 (drop i s)))) (drop (i + 8) s) ≡ crc_from r (drop i s)
-crc_turn s i r h hb =
-    ap₂ crc_from (sym (crc_word (take 8 (drop i s)) r small ∙ ap (λ (n : ℕ). shifts (8 * n) (r ⊕ le (take 8 (drop i s)))) long)) (sym (drop-drop 8 i s))
-    ∙ sym (crc_append (take 8 (drop i s)) (drop 8 (drop i s)) r)
-    ∙ ap (crc_from r) (take-append-drop 8 (drop i s))
-  where
-    long : length (take 8 (drop i s)) ≡ 8
-    long = length-take 8 (drop i s) ∙ omega (arith, length-drop i s)
+-- eight bytes
+pub crc_eight : (l : List ℕ) (r : ℕ) → length l ≡ 8 → ((k : ℕ) → get_or l k 0 < 256) → shifts 64 (r ⊕ le l) ≡ crc_from r l
+crc_eight l r long small = sym (crc_word l r small ∙ ap (λ (n : ℕ). shifts (8 * n) (r ⊕ le l)) long)
 
-    small : (k : ℕ) → get_or (take 8 (drop i s)) k 0 < 256
-    small k = take_small 8 (drop i s) k (rw get_or-drop (hb (i + k)))
+-- the words of a run, by a place among them
+module _ (ws : List (List ℕ)) (i r : ℕ) where
+  pub crc_turn : i < length ws → crc_from (crc_from r (get_or ws i [])) (concat (drop (i + 1) ws)) ≡ crc_from r (concat (drop i ws))
+  crc_turn h =
+      sym (crc_append (get_or ws i []) (concat (drop (i + 1) ws)) r)
+      ∙ ap (λ (l : List (List ℕ)). crc_from r (concat l)) (sym (drop-cons ws i [] h ∙ ap (λ (n : ℕ). get_or ws i [] ∷ drop n ws) one))
+    where
+      one : suc i ≡ i + 1
+      one = omega arith
+
+  pub crc_done : length ws ≤ i → crc_from r (concat (drop i ws)) ≡ r
+  unfolding crc_from
+  crc_done h = ap (λ (l : List (List ℕ)). crc_from r (concat l)) (drop_of_length-le ws h)
+
+-- the words of a list, and what is behind them
+words_front : (k : ℕ) (s : List ℕ) → concat (first_chunks 8 k s) ≡ take (k * 8) s
+words_front zero s = refl
+words_front (suc k) s =
+    let n : suc k * 8 ≡ 8 + k * 8 = omega arith in
+    ap (λ (l : List ℕ). take 8 s ++ l) (words_front k (drop 8 s)) ∙ sym (take-add 8 (k * 8) s) ∙ ap (λ (m : ℕ). take m s) (sym n)
+
+pub words_rest : (s : List ℕ) (k : ℕ) → concat (first_chunks 8 k s) ++ drop (k * 8) s ≡ s
+words_rest s k = ap (λ (l : List ℕ). l ++ drop (k * 8) s) (words_front k s) ∙ take-append-drop (k * 8) s
 
 -- ---- the table
 

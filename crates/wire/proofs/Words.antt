@@ -1,10 +1,11 @@
 -- Laws of little-endian words. A word of four or eight bytes is the sum that the code forms of them, and a number that is laid
 -- down as bytes is read back. The missing bytes of a short list are zeros on both sides, so no law asks for a length.
 use Rattle.std.proofs.Common.{◌≡◌, ℕ, zero, suc, ◌+◌, ◌-◌, ◌*◌, ◌/◌, ◌%◌, ◌^◌, ◌<◌, List, [], ◌∷◌, length, get_or, take, drop, sym, refl, ap, ◌∙◌, le_of_lt, zero-lt-suc, mul_comm, add_comm, pow-suc, arith, lit<, length-drop, drop_of_length-le, take_all, drop-drop}
-use native.Mathlib.Nat.{mod-one}
+use native.Mathlib.Nat.{mod-one, one-le-pow}
+use borrow.Rule.Slice.PartAt.{part_to_end}
 use lib.Arith.{mod-mul}
 use lib.Seq.{take-nil}
-use Rattle.wire.specs.Bytes.{bytes_of, le, word_at}
+use Rattle.wire.specs.Bytes.{bytes_of, le}
 
 -- ---- the sums
 
@@ -34,13 +35,12 @@ halves (a ∷ b ∷ c ∷ []) = omega arith
 halves (a ∷ b ∷ c ∷ d ∷ s) = omega arith
 
 -- the word at a place: past the end it is 0, and eight bytes are two words of four
-pub past : (n : ℕ) (s : List ℕ) (at : ℕ) → length s < at → 0 ≡ word_at n s at
-unfolding word_at le
+pub past : (n : ℕ) (s : List ℕ) (at : ℕ) → length s < at → le (take n (drop at s)) ≡ 0
+unfolding le
 past n s at h = rw (drop_of_length-le s (le_of_lt h), take-nil)
 
 -- the part of a slice from a place on
-pub rest : (s : List ℕ) (at : ℕ) → take (length s - at) (drop at s) ≡ drop at s
-rest s at = take_all (length s - at) (drop at s) (rw length-drop (omega arith))
+pub ruleset rests = (part_to_end)
 
 pub eight_at : (s : List ℕ) (at : ℕ) → le (take 4 (drop at s)) + 0x1_0000_0000 * le (take 4 (drop (at + 4) s)) ≡ le (take 8 (drop at s))
 eight_at s at =
@@ -52,15 +52,6 @@ eight_short s at h =
 
 -- ---- a number laid down is read back
 
-pub length_bytes_of : (n x : ℕ) → length (bytes_of n x) ≡ n
-unfolding bytes_of
-length_bytes_of zero x = refl
-length_bytes_of (suc n) x = ap suc (length_bytes_of n (x / 256))
-
-pos : (n : ℕ) → 0 < 256 ^ n
-pos zero = lit< tt
-pos (suc n) = rw pow-suc (omega (arith, pos n))
-
 -- the bytes of x make x again, as far as they go
 pub le_bytes_of : (n x : ℕ) → le (bytes_of n x) ≡ x % 256 ^ n
 unfolding le bytes_of
@@ -69,5 +60,5 @@ le_bytes_of (suc n) x =
     ap (λ (y : ℕ). x % 256 + 256 * y) (le_bytes_of n (x / 256))
     ∙ add_comm (x % 256) (256 * (x / 256 % 256 ^ n))
     ∙ ap (λ (y : ℕ). y + x % 256) (mul_comm 256 (x / 256 % 256 ^ n))
-    ∙ sym (mod-mul x (pos n) (zero-lt-suc 255))
+    ∙ sym (mod-mul x (one-le-pow n 256 (lit< tt)) (zero-lt-suc 255))
     ∙ ap (λ (m : ℕ). x % m) (sym (pow-suc 256 n))

@@ -1,8 +1,7 @@
 -- The header of a frame: sixteen bytes, little-endian (01, 'Frame rules'; protocol.rs `build_header`, `header_checksum`, `parse_header`).
-use Rattle.std.specs.Prelude.{ℕ, ◌+◌, ◌*◌, ◌%◌, ◌^◌, Bool, cond, ◌&&◌, List, [], ◌∷◌, ◌++◌, length, ◌==◌, nat_le, slice_index}
+use Rattle.std.specs.Prelude.{Option, None, Some, ℕ, ◌+◌, ◌*◌, ◌%◌, ◌^◌, Bool, cond, ◌&&◌, List, [], ◌∷◌, ◌++◌, length, ◌==◌, nat_le, slice_index}
 use Rattle.wire.specs.Bytes.{bytes_of, word_at}
 use Rattle.wire.specs.declared.header.Header.{Header}
-use Rattle.wire.specs.declared.header.Header.TheVariants.{Bad, Request}
 
 -- `UPGC` and `UPGR`
 abbrev pub request_magic : ℕ
@@ -26,6 +25,10 @@ accepted s =
     nat_le 16 (length s)
     && (word_at 4 s 0 == request_magic && word_at 4 s 12 == checksum_of request_magic (slice_index s 6) (slice_index s 7) (word_at 4 s 8))
 
+-- a header that says command, status and length
+abbrev pub request_of : ℕ → ℕ → ℕ → Option Header
+request_of command status len = Some (record { command = command; status = status; length = len })
+
 -- what the header says: command, status and length
-unfoldable pub parsed : List ℕ → Header
-parsed s = cond (accepted s) (Request (slice_index s 6) (slice_index s 7) (word_at 4 s 8)) Bad
+unfoldable pub parsed : List ℕ → Option Header
+parsed s = cond (accepted s) (request_of (slice_index s 6) (slice_index s 7) (word_at 4 s 8)) None

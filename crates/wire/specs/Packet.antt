@@ -1,8 +1,7 @@
 -- The wrappers of a packet: the CBW that opens a command and the CSW that ends it (01, 'Packets'; protocol.rs `Cbw`, `Csw`).
-use Rattle.std.specs.Prelude.{ℕ, Bool, cond, ◌&&◌, List, [], ◌∷◌, ◌++◌, length, ◌==◌, nat_le, slice_index}
+use Rattle.std.specs.Prelude.{Option, None, Some, ℕ, Bool, cond, ◌&&◌, List, [], ◌∷◌, ◌++◌, length, ◌==◌, nat_le, slice_index}
 use Rattle.wire.specs.Bytes.{bytes_of, word_at}
 use Rattle.wire.specs.declared.packet.Cbw.{Cbw}
-use Rattle.wire.specs.declared.packet.Cbw.TheVariants.{Bad, Command}
 
 -- `USBC` and `USBS`
 abbrev pub cbw_magic : ℕ
@@ -15,9 +14,13 @@ csw_magic = 0x53425355
 unfoldable pub is_cbw : List ℕ → Bool
 is_cbw s = nat_le 31 (length s) && word_at 4 s 0 == cbw_magic
 
+-- a CBW that says tag, length and command
+abbrev pub command_of : ℕ → ℕ → ℕ → Option Cbw
+command_of tag len command = Some (record { tag = tag; length = len; command = command })
+
 -- its tag, the length of the data stage, and the transport command
-unfoldable pub cbw_of : List ℕ → Cbw
-cbw_of s = cond (is_cbw s) (Command (word_at 4 s 4) (word_at 4 s 8) (slice_index s 15)) Bad
+unfoldable pub cbw_of : List ℕ → Option Cbw
+cbw_of s = cond (is_cbw s) (command_of (word_at 4 s 4) (word_at 4 s 8) (slice_index s 15)) None
 
 -- signature, tag, residue, status: thirteen bytes
 unfoldable pub csw_of : ℕ → ℕ → ℕ → List ℕ

@@ -1,11 +1,10 @@
 // CRC-32 of ITU-T V.42, from protocol.rs: `crc32_update`. Eight bytes a turn, one table lookup for
 // each; what is left over a byte at a time.
-ghost use Rattle.std.specs.Prelude.{◌≡◌, ◌+◌, ◌-◌, ◌*◌, ◌/◌, ◌^◌, ◌<◌, ◌≤◌, length, take, drop};
+ghost use Rattle.std.specs.Prelude.{◌≡◌, ◌-◌, ◌*◌, ◌^◌, ◌<◌, ◌≤◌};
+ghost use Rattle.std.specs.List.{concat};
 ghost use Rattle.wire.specs.Bytes.{le};
 ghost use Rattle.wire.specs.Crc.{shifts, byte_in, crc_from, crc_update};
 ghost use Rattle.wire.specs.Slices.{slice_table};
-
-use crate::bytes::wide;
 
 // Eight rows of 256: row j holds what a byte becomes that is j bytes up in eight, once they are in.
 static TABLE: [u32; 2048] = [
@@ -274,85 +273,85 @@ fn table() -> &'static [u32; 2048]
     &TABLE
 }
 
-// Eight bytes from a place on, as a number.
-fn word(s: &[u8], i: usize) -> u64
-    requires { i + 8 ≤ length s.now }
-    ensures { result ≡ le (take 8 (drop i s.now)) }
+// Eight bytes as a number. A sum: `from_le_bytes` of the eight made the checksum a seventh slower.
+#[tactic(auto, using(crate::proofs::Slices::eight))]
+fn word(bytes: &[u8; 8]) -> u64
+    ensures { result ≡ le bytes.now }
 {
-    let low = wide(s[i]) + 256 * (wide(s[i + 1]) + 256 * (wide(s[i + 2]) + 256 * wide(s[i + 3])));
-    let high = wide(s[i + 4])
-        + 256 * (wide(s[i + 5]) + 256 * (wide(s[i + 6]) + 256 * wide(s[i + 7])));
+    let low = bytes[0] as u64
+        + 256 * (bytes[1] as u64 + 256 * (bytes[2] as u64 + 256 * bytes[3] as u64));
+    let high = bytes[4] as u64
+        + 256 * (bytes[5] as u64 + 256 * (bytes[6] as u64 + 256 * bytes[7] as u64));
     low + 0x1_0000_0000 * high
 }
 
-// The shifts of four bytes that stand `up` bytes up in eight: a lookup for each.
-fn rows(t: &[u32; 2048], up: usize, x: u64) -> u32
-    requires { (t.now ≡ slice_table) × (up ≤ 4) × (x < 2 ^ 32) }
+// The shifts of four bytes that stand `up` bytes up in eight: a lookup for each. A byte is taken by `% 256` and the others by
+// `/ 256`, here and below, as the definitions do: a cast may lose no bits, and a shift says the same.
+fn rows(up: usize, x: u64) -> u32
+    requires { (up ≤ 4) × (x < 2 ^ 32) }
     ensures { result ≡ shifts (64 - 8 * up) x }
 {
+    let t = table();
     let mut r: u32 = 0;
     let mut y = x;
-    let mut j: usize = 0;
-    while j < 4 {
-        r = r ^ t[(up + j) * 256 + (y % 256) as usize];
-        y = y / 256;
-        j += 1;
+    // a range: each turn looks into the next row of the table
+    for j in 0..4 {
+        r ^= t[(up + j) * 256 + (y % 256) as usize];
+        y /= 256;
     }
     r
 }
 
 // 64 shifts. Of a register and eight bytes, the upper half is the bytes' alone: its lookups need not wait
 // for the register.
-fn shifted(t: &[u32; 2048], x: u64) -> u32
-    requires { t.now ≡ slice_table }
+fn shifted(x: u64) -> u32
     ensures { result ≡ shifts 64 x }
 {
-    rows(t, 4, x / 0x1_0000_0000) ^ rows(t, 0, x % 0x1_0000_0000)
+    rows(4, x / 0x1_0000_0000) ^ rows(0, x % 0x1_0000_0000)
 }
 
 // One byte goes into the register.
-fn step(t: &[u32; 2048], r: u32, b: u8) -> u32
-    requires { t.now ≡ slice_table }
+fn step(r: u32, b: u8) -> u32
     ensures { result ≡ byte_in r b }
 {
-    (r >> 8) ^ t[1792 + ((r ^ b as u32) % 256) as usize]
+    (r >> 8) ^ table()[1792 + ((r ^ b as u32) % 256) as usize]
 }
 
-// The bytes go into the register, eight at a time, up to the last seven or fewer: with those the
-// register comes to what it would from the start with all.
-fn by_words(t: &[u32; 2048], from: u32, s: &[u8]) -> u32
-    requires { t.now ≡ slice_table }
-    ensures { crc_from result (drop (length s.now / 8 * 8) s.now) ≡ crc_from from s.now }
+// Eight bytes go into the register at once.
+fn step_word(r: u32, bytes: &[u8; 8]) -> u32
+    ensures { result ≡ crc_from r bytes.now }
+{
+    shifted(r as u64 ^ word(bytes))
+}
+
+// The bytes go into the register, eight at a time.
+#[tactic(auto, using(crate::proofs::Slices::crc_turn, crate::proofs::Slices::crc_done))]
+fn by_words(from: u32, words: &[[u8; 8]]) -> u32
+    ensures { result ≡ crc_from from (concat words.now) }
 {
     let mut r = from;
-    let mut i = 0;
-    while s.len() - i >= 8 {
-        r = shifted(t, r as u64 ^ word(s, i));
-        i += 8;
+    for bytes in words {
+        r = step_word(r, bytes);
     }
     r
 }
 
 // The bytes go into the register, one at a time.
-fn by_bytes(t: &[u32; 2048], from: u32, s: &[u8]) -> u32
-    requires { t.now ≡ slice_table }
+#[tactic(auto, using(crate::proofs::Register::crc_next, crate::proofs::Register::crc_end))]
+fn by_bytes(from: u32, s: &[u8]) -> u32
     ensures { result ≡ crc_from from s.now }
 {
     let mut r = from;
-    let mut i = 0;
-    while i < s.len() {
-        r = step(t, r, s[i]);
-        i += 1;
+    for b in s {
+        r = step(r, *b);
     }
     r
 }
 
-// The checksum of what has the checksum `crc` and of `s` behind it; `crc` is 0 where nothing came before.
+/// The checksum of what has the checksum `crc` and of `s` behind it; `crc` is 0 where nothing came before.
 pub fn crc32_update(crc: u32, s: &[u8]) -> u32
     ensures { result ≡ crc_update crc s.now }
 {
-    let t = table();
-    let whole = s.len() / 8 * 8;
-    let r = by_words(t, !crc, s);
-    !by_bytes(t, r, &s[whole..])
+    let (words, rest) = s.as_chunks::<8>();
+    !by_bytes(by_words(!crc, words), rest)
 }

@@ -2,14 +2,6 @@
 use Rattle.record.proofs.Prints.{shrinks_trans}
 use Rattle.record.proofs.read_record.Goals as goal
 
-pub returns-in_err-read-clause-rest : goal.returns-in_err-read-clause-rest
-returns-in_err-read-clause-rest g c =
-    shrinks_trans (g.R.Read.remaining c.args.input.now) (g.R.Read.remaining c.read_full.new.input) (g.R.Read.remaining c.read_full-2.new.input) c.read_full.ensures.rest c.read_full-2.ensures.rest
-
-pub returns-then-read-length-clause-rest : goal.returns-then-read-length-clause-rest
-returns-then-read-length-clause-rest g c =
-    shrinks_trans (g.R.Read.remaining c.args.input.now) (g.R.Read.remaining c.read_full.new.input) (g.R.Read.remaining c.read_full-2.new.input) c.read_full.ensures.rest c.read_full-2.ensures.rest
-
 pub returns-clause-rest : goal.returns-clause-rest
 returns-clause-rest g c =
     shrinks_trans (g.R.Read.remaining c.args.input.now) (g.R.Read.remaining c.read_full.new.input) (g.R.Read.remaining c.read_full-2.new.input) c.read_full.ensures.rest c.read_full-2.ensures.rest

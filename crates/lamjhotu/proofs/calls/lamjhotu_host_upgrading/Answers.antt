@@ -1,9 +1,11 @@
 -- The flag of the record that the state holds.
+use mathlib.Core.Path.{◌∙◌}
 use Rattle.lamjhotu.proofs.Exports.{upgrading_short, upgrading_long}
+use Rattle.lamjhotu.proofs.Fronts.{unpack_chunk}
 use Rattle.lamjhotu.proofs.calls.lamjhotu_host_upgrading.Goals as goal
 
-pub returns-then-state-lt652 : goal.returns-then-state-lt652
-returns-then-state-lt652 c = upgrading_short _ c.if-state-lt652.true
+pub returns-in_default : goal.returns-in_default
+returns-in_default c = upgrading_short _ c.in_default.ensures.cases
 
 pub returns : goal.returns
-returns c = upgrading_long _ c.if-state-lt652.false c.unpack.ensures c.is_upgrading.ensures c.flag.ensures
+returns c = upgrading_long _ c.in-Some.ensures.cases.enough (c.unpack.ensures ∙ unpack_chunk _ c.in-Some.ensures.cases) c.is_upgrading.ensures c.from.ensures

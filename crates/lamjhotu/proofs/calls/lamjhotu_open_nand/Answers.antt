@@ -1,9 +1,10 @@
 -- Opened, and packed where it was not refused.
 use Rattle.lamjhotu.proofs.Exports.{open_short, open_long}
+use Rattle.lamjhotu.proofs.Fronts.{whole}
 use Rattle.lamjhotu.proofs.calls.lamjhotu_open_nand.Goals as goal
 
-pub returns-then-state-lt652 : goal.returns-then-state-lt652
-returns-then-state-lt652 c = open_short _ _ c.if-state-lt652.true
+pub returns-in_default : goal.returns-in_default
+returns-in_default c = open_short _ _ c.in_default.ensures.cases
 
 pub returns : goal.returns
-returns c = open_long _ c.if-state-lt652.false c.open_nand.ensures c.opened.ensures
+returns c = open_long _ c.in-Some.ensures.cases.enough (whole _ c.in-Some.ensures.cases) c.open_nand-engine.ensures (c.opened.ensures _)

@@ -2,21 +2,25 @@
 use mathlib.Core.Path.{sym, ◌∙◌}
 use Rattle.lamjhotu.proofs.Exports.{read_short}
 use Rattle.lamjhotu.proofs.Shorts.{fits_so, fits_lists, fits_not, read_none, read_fit, read_told}
+use Rattle.lamjhotu.proofs.Fronts.{whole, fits_chunk}
 use Rattle.lamjhotu.proofs.calls.lamjhotu_read.Goals as goal
 
-pub returns-then-state-lt652 : goal.returns-then-state-lt652
-returns-then-state-lt652 c = λ f t. read_short _ _ _ _ _ _ _ _ c.if-state-lt652.true
+pub returns-in_default : goal.returns-in_default
+returns-in_default c = λ f t. read_short _ _ _ _ _ _ _ _ c.in_default.ensures.cases
 
 pub returns-then-not-fits_in : goal.returns-then-not-fits_in
-returns-then-not-fits_in c = λ f t. read_none _ _ _ _ _ _ _ (fits_not _ _ _ _ _ _ _ (sym c.fits_in.ensures ∙ c.if-not-fits_in.true)) _
+returns-then-not-fits_in c =
+    let k = c.in-Some.ensures.cases in
+    λ f t. read_none _ _ _ _ _ _ _ (fits_not _ _ _ _ _ _ _ (sym (fits_chunk _ k _ _ _ _ _ _ c.fits_in.ensures) ∙ c.if-not-fits_in.true)) _ (whole _ k)
 
-pub returns-then-not-lists_ok : goal.returns-then-not-lists_ok
-returns-then-not-lists_ok c = λ f t. read_none _ _ _ _ _ _ _ (fits_lists _ _ _ _ _ _ _ (sym c.lists_ok.ensures ∙ c.if-not-lists_ok.true)) _
+pub returns-then-not-fit : goal.returns-then-not-fit
+returns-then-not-fit c =
+    λ f t. read_none _ _ _ _ _ _ _ (fits_lists _ _ _ _ _ _ _ (sym c.fit.ensures ∙ c.if-not-fit.true)) _ (whole _ c.in-Some.ensures.cases)
 
 pub next-requires : goal.next-requires
-next-requires c =
-    let h = read_fit _ _ _ _ _ _ _ (sym c.fits_in.ensures ∙ c.if-not-fits_in.false) in
-    (c.if-state-lt652.false, h.0, h.1)
+next-requires c = read_fit _ _ _ _ _ _ _ (sym c.fits_in.ensures ∙ c.if-not-fits_in.false)
 
 pub returns : goal.returns
-returns c = λ f t. read_told _ _ _ _ _ _ _ _ c.if-state-lt652.false (fits_so _ _ _ _ _ _ _ (sym c.fits_in.ensures ∙ c.if-not-fits_in.false) (sym c.lists_ok.ensures ∙ c.if-not-lists_ok.false)) c.next.ensures
+returns c =
+    let k = c.in-Some.ensures.cases in
+    λ f t. read_told _ _ _ _ _ _ _ _ k.enough (whole _ k) (fits_so _ _ _ _ _ _ _ (sym (fits_chunk _ k _ _ _ _ _ _ c.fits_in.ensures) ∙ c.if-not-fits_in.false) (sym c.fit.ensures ∙ c.if-not-fit.false)) (c.next.ensures _)

@@ -10,8 +10,8 @@ returns-then-in_stream c = way_piece _ _ c.in_stream.ensures c.if-in_stream.true
 pub returns-then-not-idle : goal.returns-then-not-idle
 returns-then-not-idle c = way_busy _ _ c.in_stream.ensures c.if-in_stream.false c.idle.ensures (c.if-not-idle.true)
 
-pub returns-in-Other : goal.returns-in-Other
-returns-in-Other c = ap way_by (sym c.in-Other.is) ∙ way_alone _ _ c.in_stream.ensures c.if-in_stream.false c.idle.ensures (c.if-not-idle.false) c.alone_of.ensures
+pub returns-in-None : goal.returns-in-None
+returns-in-None c = ap way_by (sym c.in-None.is) ∙ way_alone _ _ c.in_stream.ensures c.if-in_stream.false c.idle.ensures (c.if-not-idle.false) c.alone_of.ensures
 
-pub returns-in-Query : goal.returns-in-Query
-returns-in-Query c = ap way_by (sym c.in-Query.is) ∙ way_alone _ _ c.in_stream.ensures c.if-in_stream.false c.idle.ensures (c.if-not-idle.false) c.alone_of.ensures
+pub returns-in-Some : goal.returns-in-Some
+returns-in-Some c = ap way_by (sym c.in-Some.is) ∙ way_alone _ _ c.in_stream.ensures c.if-in_stream.false c.idle.ensures (c.if-not-idle.false) c.alone_of.ensures

@@ -1,15 +1,11 @@
 -- Seven numbers and two marks are all that a counted piece changes.
-use native.Mathlib.Omega.{arith}
-use lib.ListN.{length-set}
-use Rattle.lamjhotu.proofs.States.{counted_told}
 use borrow.Author.Rules.{rules}
+use mathlib.Core.Path.{◌≡◌}
+use Rattle.lamjhotu.specs.State.{is_block}
+use Rattle.lamjhotu.proofs.States.{block_told, counted_told}
 use Rattle.lamjhotu.proofs.state.count.Goals as goal
 
-pub bounds-s-139-2 : goal.bounds-s-139-2
-bounds-s-139-2 c = simp length-set (omega arith)
-
-pub shape_of-s : goal.shape_of-s
-shape_of-s c = simp length-set (search rules)
-
 pub returns : goal.returns
-returns c = counted_told _ _ _ _ _ _ c.requires (λ k. (c.slice_known-1.given k).fits) c.word_at.ensures c.block_over-block.ensures c.mark-held.ensures c.is_block.ensures c.mark-erased.ensures c.two.ensures c.moves.ensures (search rules)
+returns c =
+    let block : c.is_some.result ≡ is_block c.args.t.erased = search rules in
+    counted_told _ _ _ _ _ _ c.told-s c.requires c.fits-s (block_told c.args.t.erased c.word_at.ensures c.unwrap_or-block.ensures) c.mark-held.ensures block c.mark-erased.ensures c.two.ensures c.moves.ensures (search rules)

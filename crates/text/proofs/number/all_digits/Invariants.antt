@@ -1,11 +1,7 @@
--- `number::all_digits`: whenever the loop's test is reached, `v` fits, and the digits that are left make, behind `v`, what all of
--- them make. A value that does not fit never comes to fit again, so the code may stop there.
-use Rattle.std.specs.Prelude.{◌≡◌, ◌-◌, ◌^◌, ◌<◌, length, drop}
+-- `number::all_digits`: whenever a turn begins, `v` fits, and the digits that are left make, behind `v`, what all of them make.
+use Rattle.std.proofs.Common.{◌≡◌, ◌≤◌, ◌<◌, ◌^◌, length, drop}
 use Rattle.text.specs.Number.{digits}
 use Rattle.text.proofs.number.all_digits.Given as goal
 
-abbrev pub invariant-loop-i : goal.invariant-loop-i
-invariant-loop-i l = (l.v < 2 ^ 64) × (digits l.base l.v (drop l.i l.s) ≡ digits l.base 0 (drop l.at l.s))
-
-abbrev pub decreases-loop-i : goal.decreases-loop-i
-decreases-loop-i l = length l.s - l.i
+abbrev pub invariant-loop-b : goal.invariant-loop-b
+invariant-loop-b l = record { in_range : l.b-index ≤ length l.s; small : l.v < 2 ^ 64; same : digits l.base l.v (drop l.b-index l.s) ≡ digits l.base 0 l.s }

@@ -1,11 +1,8 @@
--- What is left of the bytes gives the register the same end as all of them from the start; the loop stops at the last
--- multiple of eight.
-use Rattle.std.proofs.Common.{◌≡◌, ◌-◌, ◌%◌, ◌^◌, ◌<◌, ◌≤◌, length, drop}
+-- What is left of the words gives the register the same end as all of them from the start.
+use Rattle.std.proofs.Common.{◌≡◌, drop}
+use Rattle.std.specs.List.{concat}
 use Rattle.wire.specs.Crc.{crc_from}
 use Rattle.wire.proofs.crc.by_words.Given as goal
 
-abbrev pub invariant-loop-i : goal.invariant-loop-i
-invariant-loop-i l = (l.i ≤ length l.s) × (l.i % 8 ≡ 0) × (l.r < 2 ^ 32) × (crc_from l.r (drop l.i l.s) ≡ crc_from l.from l.s)
-
-abbrev pub decreases-loop-i : goal.decreases-loop-i
-decreases-loop-i l = length l.s - l.i
+abbrev pub invariant-loop-bytes : goal.invariant-loop-bytes
+invariant-loop-bytes l = crc_from l.r (concat (drop l.bytes-index l.words)) ≡ crc_from l.from (concat l.words)

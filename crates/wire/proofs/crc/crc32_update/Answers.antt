@@ -1,22 +1,20 @@
 -- The register after the whole words takes in the bytes that are left; the complement of a register is the definition's.
-use Rattle.std.proofs.Common.{ℕ, ◌*◌, ◌/◌, length, ap, ◌∙◌, arith}
+use Rattle.std.proofs.Common.{ℕ, ◌/◌, List, length, sym, ap, ◌∙◌, ap₂, arith}
+use Rattle.std.specs.List.{concat}
+use Rattle.std.specs.Simd.{first_chunks}
 use Rattle.wire.specs.Crc.{crc_from, complement, crc_update}
-use Rattle.wire.proofs.Register.{not_is}
-use Rattle.wire.proofs.Words.{rest}
+use Rattle.wire.proofs.Register.{not_is, crc_append}
+use Rattle.wire.proofs.Slices.{words_rest}
 use Rattle.wire.proofs.crc.crc32_update.Goals as goal
-
-pub by_words-r-requires : goal.by_words-r-requires
-by_words-r-requires c = c.table-t.ensures
-
-pub by_bytes-requires : goal.by_bytes-requires
-by_bytes-requires c = c.table-t.ensures
 
 pub returns : goal.returns
 unfolding crc_update
 returns c =
+    let s = c.args.s.now in
+    let n : ℕ = length s / 8 in
     not_is c.by_bytes.result (omega arith)
     ∙ ap complement
     (c.by_bytes.ensures
-    ∙ ap (crc_from c.by_words-r.result) (rest c.args.s.now (length c.args.s.now / 8 * 8))
-    ∙ c.by_words-r.ensures
-    ∙ ap (λ (x : ℕ). crc_from x c.args.s.now) (not_is c.args.crc c.ranges.crc.fits))
+    ∙ ap₂ crc_from (c.by_words.ensures ∙ ap₂ (λ (r : ℕ) (w : List (List ℕ)). crc_from r (concat w)) (not_is c.args.crc c.ranges.crc.fits) c.as_chunks.ensures.front) c.as_chunks.ensures.back
+    ∙ sym (crc_append (concat (first_chunks 8 n s)) _ (complement c.args.crc))
+    ∙ ap (crc_from (complement c.args.crc)) (words_rest s n))

@@ -5,6 +5,3 @@ use Rattle.wire.proofs.crc.rows.Given as goal
 
 abbrev pub invariant-loop-j : goal.invariant-loop-j
 invariant-loop-j l = (l.j ≤ 4) × (l.y ≡ l.x / 2 ^ (8 * l.j)) × (l.r ⊕ shifts (64 - 8 * (l.up + l.j)) l.y ≡ shifts (64 - 8 * l.up) l.x)
-
-abbrev pub decreases-loop-j : goal.decreases-loop-j
-decreases-loop-j l = 4 - l.j
